@@ -1,0 +1,4 @@
+pub mod Order
+pub mod Lent
+pub mod Settles
+pub mod Unique

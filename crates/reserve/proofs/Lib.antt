@@ -1,0 +1,14 @@
+pub mod Tables
+pub mod Turn
+pub mod Ready
+pub mod Pass
+pub mod Lower
+pub mod Down
+pub mod Sweeps
+pub mod FirstSlots
+pub mod Scanning
+pub mod Verdict
+pub mod Handed
+pub mod JobWindows
+pub mod Demand2
+pub mod Unique

@@ -1,0 +1,5 @@
+pub mod Tables
+pub mod Check
+pub mod Lists
+pub mod Demand
+pub mod Turns

@@ -1,0 +1,106 @@
+// The reservations of a table: whether the rule leaves a job short, which row holds each slot, and when each job's alternate must start.
+ghost use mathlib.Core.Path.{_≡_};
+ghost use Rattle.reserve.specs.Check.{tableCheck};
+ghost use Rattle.reserve.specs.Lists.{listAnswer, listBytes, firstsAnswer, firstsPlaces};
+use refusal::Refusal;
+use table::Checked;
+use table::Table;
+
+mod scan;
+mod sweep;
+
+// The answer to a question for first slots: a refusal, and beside an acceptance the number of jobs, else 0.
+pub struct Firsts {
+    pub refusal: Refusal,
+    pub jobs: usize,
+}
+
+// Refusals 1 to 7 of a table given as rows, and its cycle.
+pub fn check(t: Table) -> Checked
+    ensures { λ r. ⌜ r ≡ tableCheck t ⌝ }
+{
+    let rows = table::check_rows(t);
+    let f = rows.refusal;
+    match f {
+        Refusal::None => {
+            let cycle = rows.cycle;
+            let k = sweep::tight_row(t, cycle);
+            if k == 0 {
+                Checked {
+                    refusal: Refusal::None,
+                    cycle,
+                }
+            } else {
+                Checked {
+                    refusal: Refusal::Tight(k),
+                    cycle: 0,
+                }
+            }
+        }
+        _ => Checked {
+            refusal: f,
+            cycle: 0,
+        },
+    }
+}
+
+// Writes the reservation list: a byte for each slot of the cycle, 0 for free or the row. Later bytes stay, and a refusal writes nothing.
+pub fn reservations(t: Table, out: &mut [u8]) -> Checked
+    ensures answer { λ r. ⌜ r ≡ listAnswer t (now (out .entry)) ⌝ }
+    ensures bytes { λ _. ⌜ now (out .exit) ≡ listBytes t (now (out .entry)) ⌝ }
+{
+    let checked = check(t);
+    let f = checked.refusal;
+    match f {
+        Refusal::None => {
+            let cycle = checked.cycle;
+            if out.len() < cycle as usize {
+                return Checked {
+                    refusal: Refusal::Room,
+                    cycle: 0,
+                };
+            }
+            sweep::fill(t, cycle, out);
+            Checked {
+                refusal: Refusal::None,
+                cycle,
+            }
+        }
+        _ => Checked {
+            refusal: f,
+            cycle: 0,
+        },
+    }
+}
+
+// Writes the first slot of each job, rows in order. Later places stay, and a refusal writes nothing.
+pub fn first_slots(t: Table, out: &mut [u16]) -> Firsts
+    ensures answer { λ r. ⌜ r ≡ firstsAnswer t (now (out .entry)) ⌝ }
+    ensures places { λ _. ⌜ now (out .exit) ≡ firstsPlaces t (now (out .entry)) ⌝ }
+{
+    let checked = check(t);
+    let f = checked.refusal;
+    match f {
+        Refusal::None => {
+            let cycle = checked.cycle;
+            let jobs = scan::count_jobs(t, cycle);
+            if out.len() < jobs {
+                return Firsts {
+                    refusal: Refusal::Room,
+                    jobs: 0,
+                };
+            }
+            let mut list = [0u8; 4096];
+            sweep::fill(t, cycle, &mut list);
+            scan::put_firsts(t, cycle, &list, out);
+            Firsts {
+                refusal: Refusal::None,
+                jobs,
+            }
+        }
+        _ => Firsts {
+            refusal: f,
+            jobs: 0,
+        },
+    }
+}

@@ -1,0 +1,15 @@
+pub mod Tests
+pub mod Counting
+pub mod Facts
+pub mod Monotone
+pub mod Unit
+pub mod Kept
+pub mod First
+pub mod FirstRow
+pub mod Holders
+pub mod Lacks
+pub mod Words
+pub mod Remainders
+pub mod Sweep
+pub mod Claims
+pub mod HolderList

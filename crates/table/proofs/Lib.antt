@@ -1,0 +1,9 @@
+pub mod Lists
+pub mod Euclid
+pub mod Cycle
+pub mod Capped
+pub mod FaultCases
+pub mod Good
+pub mod Check
+pub mod Windows
+pub mod Unique

@@ -1,0 +1,4 @@
+pub mod Gcd
+pub mod Rows
+pub mod Windows
+pub mod Check
