@@ -18,7 +18,7 @@ use Rattle.rule.specs.Rule.{held, takes, holder, first, short, begins, lacks, t
 use Rattle.rule.specs.Sweep.{holders}
 use Rattle.reserve.specs.Tables.{ends, whole}
 use Rattle.reserve.specs.Check.{tightOf, tableRefusal, tableCheck}
-use Rattle.reserve.specs.Lists.{reservations, jobsOf, jobFirsts, rowFirsts, firstSlots}
+use Rattle.reserve.specs.Lists.{reservationList, jobsOf, jobFirsts, rowFirsts, firstSlots}
 
 abbrev row : ℕ → ℕ → ℕ → Row
 row t p a = record { period = t; primary = p; alternate = a }
@@ -46,10 +46,10 @@ places k s [] = []
 places k s (x ∷ xs) = cond (eqb x k) (s ∷ places k (suc s) xs) (places k (suc s) xs)
 
 unfoldable pub passes : Case → Bool
-unfolding same places orElse beside gcdIn gcdOf lcmOf used foldOf cycleOf opens windowEnd wants faultOf faultsOf rowsRefusal count some firstOf orRow firstRow held takes holder first short begins lacks tightRow holders ends whole tightOf tableRefusal tableCheck reservations jobsOf jobFirsts rowFirsts firstSlots
+unfolding same places orElse beside gcdIn gcdOf lcmOf used foldOf cycleOf opens windowEnd wants faultOf faultsOf rowsRefusal count some firstOf orRow firstRow held takes holder first short begins lacks tightRow holders ends whole tightOf tableRefusal tableCheck reservationList jobsOf jobFirsts rowFirsts firstSlots
 passes (checked rs n k c) = eqb (numberOf (tableCheck (table rs) .refusal)) n && (eqb (rowOf (tableCheck (table rs) .refusal)) k && eqb (tableCheck (table rs) .cycle) c)
 passes (starting rs xs) = same (firstSlots rs) xs
-passes (holding rs k xs) = same (places k 0 (reservations rs)) xs
+passes (holding rs k xs) = same (places k 0 (reservationList rs)) xs
 
 unfoldable pub all : List Case → Bool
 unfolding passes

@@ -1,20 +1,19 @@
--- Demand 2, its static part: the reservations of a table are those of the backward rate-monotonic rule as document 01 fixes it, and a table that passes the earlier
+-- Demand 2, its static part: the reservationList of a table are those of the backward rate-monotonic rule as document 01 fixes it, and a table that passes the earlier
 -- checks is refused as tight exactly when that rule leaves a job short. docs/PROMISES.md names these theorems.
 -- Assumes nothing.
 use mathlib.Core.Path.{_≡_, refl, sym, ap, _∙_}
-use mathlib.Core.Logic.{_↔_, _≢_, ⊎-elim}
-use mathlib.Core.Bool.{Bool, true, false}
+use mathlib.Core.Logic.{_↔_, ⊎-elim}
+use mathlib.Core.Bool.{Bool, false}
 use mathlib.Core.List.{List}
-use Prim.Native.Nat.{ℕ, zero, suc, _+_, _-_, _≤_, _<_}
+use Prim.Native.Nat.{ℕ, zero, suc, _-_, _≤_, _<_}
 use native.Mathlib.Omega.{arith}
 use borrow.Author.Tests.{lt-ltb, le-ltb, eqb-true, eqb-false}
-use lib.Dec.{ltb, eqb}
+use lib.Dec.{ltb}
 use lib.ListN.{length, getD}
-use Rattle.refusal.specs.declared.Refusal.{Refusal}
 use Rattle.refusal.specs.declared.Refusal.the-variants.{None, Tight}
 use Rattle.refusal.specs.Numbers.{numberOf, rowOf}
-use Rattle.refusal.specs.Order.{given, orElse}
-use Rattle.refusal.proofs.Order.{passes, none-first}
+use Rattle.refusal.specs.Order.{given}
+use Rattle.refusal.proofs.Order.{passes}
 use Rattle.table.specs.declared.Row.{Row}
 use Rattle.table.specs.declared.Table.{Table}
 use Rattle.table.specs.Rows.{rowAt, used, cycleOf}
@@ -24,8 +23,8 @@ use Rattle.table.proofs.Check.{accepted-rows}
 use Rattle.table.proofs.Cycle.{cycle-multiple}
 use Rattle.table.proofs.Windows.{opens-first, count-closes}
 use Rattle.rule.specs.Slots.{within, firstOf}
-use Rattle.rule.specs.Rule.{takes, lacks, tightRow}
-use Rattle.rule.specs.Words.{above, Reserves, Follows}
+use Rattle.rule.specs.Rule.{takes, lacks}
+use Rattle.rule.specs.Words.{above, Reserves}
 use Rattle.rule.specs.Sweep.{sweep}
 use Rattle.rule.proofs.Tests.{side, false-if, never}
 use Rattle.rule.proofs.FirstRow.{FirstAt}
@@ -35,7 +34,7 @@ use Rattle.rule.proofs.Words.{above-same, reserves-same, rule-follows, follows-
 use Rattle.rule.proofs.Sweep.{sweep-is}
 use Rattle.reserve.specs.Tables.{ends, whole}
 use Rattle.reserve.specs.Check.{tightOf, tableRefusal}
-use Rattle.reserve.specs.Lists.{reservations, jobsOf, firstSlots}
+use Rattle.reserve.specs.Lists.{reservationList, jobsOf, firstSlots}
 use Rattle.reserve.specs.Demand.{InCycle, Assigned, listed, ShortJob, TightAt, placeOf, FirstReserved}
 use Rattle.reserve.proofs.Tables.{AllGood, windows-of, claims-of, ends-within, ends-last}
 use Rattle.reserve.proofs.JobWindows.{follows-assigned, assigned-follows, short-lacks, lacks-short}
@@ -111,20 +110,20 @@ module _ (t : Table) (e : rowsRefusal t ≡ None) where
   )
 
   -- ---- the reservation list is what the words say
-  list-takes : (i s : ℕ) → i < length rs → s < cycleOf rs → takes (ends rs) (whole rs) i s ≡ listed (reservations rs) i s
+  list-takes : (i s : ℕ) → i < length rs → s < cycleOf rs → takes (ends rs) (whole rs) i s ≡ listed (reservationList rs) i s
   list-takes i s l u = sym (byte-takes rs i s l u)
 
   -- 'each job reserves the latest a slots of its window that no higher row holds': so does the list
   reserved : tableRefusal t ≡ None → (i j : ℕ) → i < length rs → InCycle rs i j
-      → Reserves (above (listed (reservations rs)) i) (listed (reservations rs) i) (opens (rowAt rs i) j) (closes (rowAt rs i) j) (rowAt rs i .alternate)
+      → Reserves (above (listed (reservationList rs)) i) (listed (reservationList rs) i) (opens (rowAt rs i) j) (closes (rowAt rs i) j) (rowAt rs i .alternate)
   unfolding Assigned
   reserved d i j l c =
       reserves-same
-      (λ s u. above-same (takes (ends rs) (whole rs)) (listed (reservations rs)) s i (λ k v. list-takes k s (omega arith) (omega (arith, c .1))))
+      (λ s u. above-same (takes (ends rs) (whole rs)) (listed (reservationList rs)) s i (λ k v. list-takes k s (omega arith) (omega (arith, c .1))))
       (λ s u. list-takes i s l (omega (arith, c .1)))
       (follows-assigned rs good (takes (ends rs) (whole rs)) (rule-follows (windows-of rs good) (claims-of rs good) 0 (cycleOf rs) (enough (none-refusal d))) i j l c)
 
-  pub list-reserves : tableRefusal t ≡ None → Assigned rs (listed (reservations rs))
+  pub list-reserves : tableRefusal t ≡ None → Assigned rs (listed (reservationList rs))
   unfolding Assigned
   list-reserves d = reserved d
 
@@ -137,33 +136,33 @@ module _ (t : Table) (e : rowsRefusal t ≡ None) where
         (none-tight (ends rs) (whole rs) 0 (cycleOf rs) (length rs)
         (follows-enough (windows-of rs good) (claims-of rs good) 0 (cycleOf rs) (ends-within rs good) A (assigned-follows rs good A a)))
 
-    pub list-only : (i s : ℕ) → i < length rs → s < cycleOf rs → A i s ≡ listed (reservations rs) i s
+    pub list-only : (i s : ℕ) → i < length rs → s < cycleOf rs → A i s ≡ listed (reservationList rs) i s
     list-only i s l u =
         follows-only (windows-of rs good) (claims-of rs good) 0 (cycleOf rs) (ends-within rs good) A (assigned-follows rs good A a) i s l (omega arith) u ∙ list-takes i s l u
 
   -- ---- 'A sweep from the cycle's end to slot 0 must give the same reservations.'
-  pub sweep-same : sweep (ends rs) (whole rs) (length rs) 0 (cycleOf rs) ≡ reservations rs
-  unfolding reservations
+  pub sweep-same : sweep (ends rs) (whole rs) (length rs) 0 (cycleOf rs) ≡ reservationList rs
+  unfolding reservationList
   sweep-same =
       let z : cycleOf rs - 0 ≡ cycleOf rs = omega arith in
       rw z at (sweep-is (ends rs) (whole rs) (length rs) (windows-of rs good) (claims-of rs good) 0 (cycleOf rs) (omega arith) (λ i s l h. ends-last rs good i s l h))
 
   -- ---- the first slots are those of the reservation list
   pub firsts-reserved : tableRefusal t ≡ None → (i j : ℕ) → i < length rs → InCycle rs i j
-      → FirstReserved (reservations rs) (suc i) (opens (rowAt rs i) j) (closes (rowAt rs i) j) (getD (firstSlots rs) (placeOf rs i j) 0)
+      → FirstReserved (reservationList rs) (suc i) (opens (rowAt rs i) j) (closes (rowAt rs i) j) (getD (firstSlots rs) (placeOf rs i j) 0)
   unfolding jobsOf
   firsts-reserved d i j l c =
       let r = rowAt rs i in
       let n : j ≤ jobsOf rs i = count-closes r (good i l) (cycleOf rs) j (cycle-multiple rs i l) (c .1) in
-      let m : 0 < within (listed (reservations rs) i) (opens r j) (closes r j) = omega (arith, good i l .alternate, reserved d i j l c .exactly) in
-      let g : FoundFirst (listed (reservations rs) i) (opens r j) (closes r j - opens r j) (firstOf (listed (reservations rs) i) (opens r j) (closes r j - opens r j))
-      = firstOf-found (listed (reservations rs) i) (opens r j) (closes r j - opens r j) m in
+      let m : 0 < within (listed (reservationList rs) i) (opens r j) (closes r j) = omega (arith, good i l .alternate, reserved d i j l c .exactly) in
+      let g : FoundFirst (listed (reservationList rs) i) (opens r j) (closes r j - opens r j) (firstOf (listed (reservationList rs) i) (opens r j) (closes r j - opens r j))
+      = firstOf-found (listed (reservationList rs) i) (opens r j) (closes r j - opens r j) m in
       rw (first-at rs i j l (c .0) n, first-listed rs good i j l (c .0) n)
       (record {
         from = g .from;
         before = omega (arith, g .before, opens-first r (good i l) j (c .0));
-        reserved = eqb-true (getD (reservations rs) (firstOf (listed (reservations rs) i) (opens r j) (closes r j - opens r j)) 0) (suc i) (g .here);
-        none-earlier = λ s a b. eqb-false (getD (reservations rs) s 0) (suc i) (g .none-earlier s a b);
+        reserved = eqb-true (getD (reservationList rs) (firstOf (listed (reservationList rs) i) (opens r j) (closes r j - opens r j)) 0) (suc i) (g .here);
+        none-earlier = λ s a b. eqb-false (getD (reservationList rs) s 0) (suc i) (g .none-earlier s a b);
       })
 
 -- one slot only is the first

@@ -20,7 +20,7 @@ use Rattle.rule.proofs.First.{firstOf-same}
 use Rattle.rule.proofs.Holders.{holder-is, is-holder}
 use Rattle.rule.proofs.HolderList.{getD-holders}
 use Rattle.reserve.specs.Tables.{ends, whole}
-use Rattle.reserve.specs.Lists.{reservations, jobsOf, jobFirsts, rowFirsts, firstSlots}
+use Rattle.reserve.specs.Lists.{reservationList, jobsOf, jobFirsts, rowFirsts, firstSlots}
 use Rattle.reserve.specs.Demand.{jobsFrom, placeOf}
 use Rattle.reserve.proofs.Tables.{AllGood}
 
@@ -29,10 +29,6 @@ pub job-count : (rs : List Row) (i j m : ℕ) → length (jobFirsts rs i j m) �
 unfolding jobFirsts
 job-count rs i j zero = refl
 job-count rs i j (suc m) = ap suc (job-count rs i (suc j) m)
-
-pub row-count : (rs : List Row) (i n : ℕ) → length (rowFirsts rs i (suc n)) ≡ jobsOf rs i + length (rowFirsts rs (suc i) n)
-unfolding rowFirsts
-row-count rs i n = length-append (jobFirsts rs i 1 (jobsOf rs i)) (rowFirsts rs (suc i) n) ∙ ap (λ (k : ℕ). k + length (rowFirsts rs (suc i) n)) (job-count rs i 1 (jobsOf rs i))
 
 -- ---- one job more
 pub job-more : (rs : List Row) (i j m : ℕ) → jobFirsts rs i j (suc m) ≡ jobFirsts rs i j m ++ (first (ends rs) (whole rs) i (opens (rowAt rs i) (j + m)) ∷ [])
@@ -75,23 +71,23 @@ first-at rs i j l p u =
 
 module _ (rs : List Row) where
   -- the list's byte names row i exactly where the row holds the slot
-  pub byte-takes : (i s : ℕ) → i < length rs → s < cycleOf rs → eqb (getD (reservations rs) s 0) (suc i) ≡ takes (ends rs) (whole rs) i s
-  unfolding reservations
+  pub byte-takes : (i s : ℕ) → i < length rs → s < cycleOf rs → eqb (getD (reservationList rs) s 0) (suc i) ≡ takes (ends rs) (whole rs) i s
+  unfolding reservationList
   byte-takes i s l u =
       let z : 0 + s ≡ s = omega arith in
-      let b : getD (reservations rs) s 0 ≡ holder (ends rs) (whole rs) (length rs) s = rw z at (getD-holders (ends rs) (whole rs) (length rs) 0 (cycleOf rs) s u) in
-      both-ways (eqb (getD (reservations rs) s 0) (suc i)) (takes (ends rs) (whole rs) i s)
-      (λ h. is-holder (ends rs) (whole rs) (length rs) i s (sym b ∙ eqb-true (getD (reservations rs) s 0) (suc i) h) .1)
-      (λ h. eq-eqb (getD (reservations rs) s 0) (suc i) (b ∙ holder-is (ends rs) (whole rs) (length rs) i s l h))
+      let b : getD (reservationList rs) s 0 ≡ holder (ends rs) (whole rs) (length rs) s = rw z at (getD-holders (ends rs) (whole rs) (length rs) 0 (cycleOf rs) s u) in
+      both-ways (eqb (getD (reservationList rs) s 0) (suc i)) (takes (ends rs) (whole rs) i s)
+      (λ h. is-holder (ends rs) (whole rs) (length rs) i s (sym b ∙ eqb-true (getD (reservationList rs) s 0) (suc i) h) .1)
+      (λ h. eq-eqb (getD (reservationList rs) s 0) (suc i) (b ∙ holder-is (ends rs) (whole rs) (length rs) i s l h))
 
   -- 'The first reserved slot of a job': that of the reservation list
   pub first-listed : AllGood rs → (i j : ℕ) → i < length rs → 1 ≤ j → j ≤ jobsOf rs i
       → first (ends rs) (whole rs) i (opens (rowAt rs i) j)
-      ≡ firstOf (λ s. eqb (getD (reservations rs) s 0) (suc i)) (opens (rowAt rs i) j) (closes (rowAt rs i) j - opens (rowAt rs i) j)
+      ≡ firstOf (λ s. eqb (getD (reservationList rs) s 0) (suc i)) (opens (rowAt rs i) j) (closes (rowAt rs i) j - opens (rowAt rs i) j)
   unfolding first ends jobsOf
   first-listed good i j l p u =
       let e : windowEnd (rowAt rs i) (opens (rowAt rs i) j) ≡ closes (rowAt rs i) j = end-opens (rowAt rs i) (good i l) j p in
       let w : closes (rowAt rs i) j ≤ cycleOf rs = closes-count (rowAt rs i) (good i l) (cycleOf rs) j (cycle-multiple rs i l) u in
       rw e
-      (firstOf-same (takes (ends rs) (whole rs) i) (λ s. eqb (getD (reservations rs) s 0) (suc i)) (opens (rowAt rs i) j) (closes (rowAt rs i) j - opens (rowAt rs i) j)
+      (firstOf-same (takes (ends rs) (whole rs) i) (λ s. eqb (getD (reservationList rs) s 0) (suc i)) (opens (rowAt rs i) j) (closes (rowAt rs i) j - opens (rowAt rs i) j)
       (λ s a b. sym (byte-takes i s l (omega (arith, opens-first (rowAt rs i) (good i l) j p)))))

@@ -1,21 +1,20 @@
 -- The jobs of a table's rows and the windows that begin from slot 0 on are the same.
 -- Assumes nothing.
-use mathlib.Core.Path.{_≡_, refl, sym, ap, _∙_}
-use mathlib.Core.Bool.{Bool, true, false}
+use mathlib.Core.Path.{_≡_, sym, ap, _∙_}
+use mathlib.Core.Bool.{Bool, true}
 use mathlib.Core.List.{List}
-use Prim.Native.Nat.{ℕ, suc, _/_, _≤_, _<_}
+use Prim.Native.Nat.{ℕ, suc, _/_, _<_}
 use native.Mathlib.Omega.{arith}
 use lib.ListN.{length}
 use Rattle.table.specs.declared.Row.{Row}
 use Rattle.table.specs.Rows.{rowAt, cycleOf}
-use Rattle.table.specs.Windows.{opens, closes, starts}
+use Rattle.table.specs.Windows.{opens, closes}
 use Rattle.table.proofs.Windows.{end-opens, opens-first, starts-opens, start-opens, start-wants, opens-within}
 use Rattle.table.proofs.Cycle.{cycle-multiple}
-use Rattle.rule.specs.Rule.{begins, held, between, short, lacks}
-use Rattle.rule.specs.Words.{above, Reserves, Follows}
+use Rattle.rule.specs.Rule.{begins, held, between, lacks}
+use Rattle.rule.specs.Words.{Follows}
 use Rattle.rule.proofs.Facts.{short-few, few-short}
 use Rattle.rule.proofs.Lacks.{lacks-at, at-lacks}
-use Rattle.rule.proofs.Tests.{false-if, never, split}
 use Rattle.reserve.specs.Tables.{ends, whole}
 use Rattle.reserve.specs.Demand.{InCycle, Assigned, ShortJob}
 use Rattle.reserve.proofs.Tables.{AllGood, begins-is}

@@ -8,7 +8,7 @@ pub mod Sweeps
 pub mod FirstSlots
 pub mod Scanning
 pub mod Verdict
-pub mod Handed
+pub mod HandedOut
 pub mod JobWindows
 pub mod Demand2
 pub mod Unique

@@ -21,7 +21,7 @@ use Rattle.rule.specs.Slots.{firstOf}
 use Rattle.rule.specs.Rule.{first}
 use Rattle.rule.proofs.First.{firstOf-none, firstOf-here, firstOf-later, firstOf-same}
 use Rattle.reserve.specs.Tables.{ends, whole}
-use Rattle.reserve.specs.Lists.{reservations, jobsOf, jobFirsts, rowFirsts, firstSlots}
+use Rattle.reserve.specs.Lists.{reservationList, jobsOf, jobFirsts, rowFirsts, firstSlots}
 use Rattle.reserve.specs.Turns.{Ready, Listed}
 use Rattle.reserve.proofs.Ready.{few, good, cycle-fits, size, row-is}
 use Rattle.reserve.proofs.FirstSlots.{job-count, job-more, first-listed}
@@ -120,10 +120,10 @@ module _ {t : Table} {cycle : ℕ} (r : Ready t cycle) where
         let n : rowAt (used t) i .period ≡ p = sym (m ∙ ap (λ (x : Row). x .period) (row-is r e i l)) in
         let d : suc j * p ≡ j * p + p = omega arith in
         let w : j * p + p ≤ cycle = rw m (window-fits j u) in
-        let f : first (ends (used t)) (whole (used t)) i (j * p) ≡ firstOf (λ s. eqb (getD (reservations (used t)) s 0) (suc i)) (j * p) (j * p + p - j * p)
+        let f : first (ends (used t)) (whole (used t)) i (j * p) ≡ firstOf (λ s. eqb (getD (reservationList (used t)) s 0) (suc i)) (j * p) (j * p + p - j * p)
         = rw (n, b, d) at (first-listed (used t) (good r) i (suc j) row (omega arith) u) in
         q ∙ rw (n, a, add-one i)
-        (firstOf-same (λ s. eqb (getD list s 0) (suc i)) (λ s. eqb (getD (reservations (used t)) s 0) (suc i)) (j * p) (j * p + p - j * p)
+        (firstOf-same (λ s. eqb (getD list s 0) (suc i)) (λ s. eqb (getD (reservationList (used t)) s 0) (suc i)) (j * p) (j * p + p - j * p)
         (λ x v y. ap (λ (z : ℕ). eqb z (suc i)) (h .bytes x (omega arith)))
         ∙ sym f)
 

@@ -11,7 +11,7 @@ use Rattle.rule.specs.Rule.{tightRow}
 use Rattle.rule.specs.Sweep.{holders}
 use Rattle.reserve.specs.Tables.{ends, whole}
 use Rattle.reserve.specs.Check.{tightOf}
-use Rattle.reserve.specs.Lists.{reservations}
+use Rattle.reserve.specs.Lists.{reservationList}
 use Rattle.reserve.specs.Turns.{Ready}
 use Rattle.reserve.proofs.Tables.{ends-last}
 use Rattle.reserve.proofs.Ready.{good}
@@ -38,8 +38,8 @@ module _ {t : Table} {cycle : ℕ} (r : Ready t cycle) where
       e ∙ rw q (lacking-end (ends (used t)) (whole (used t)) (length (used t)) cycle 0)
       ∙ ap (λ (L : ℕ). tightRow (ends (used t)) (whole (used t)) 0 L (length (used t))) (r .is-cycle)
 
-  pub fill-end : (old out : List ℕ) (s : ℕ) → s ≤ 0 → cycle ≤ length old → Filling t cycle old out s → out ≡ reservations (used t) ++ drop cycle old
-  unfolding reservations
+  pub fill-end : (old out : List ℕ) (s : ℕ) → s ≤ 0 → cycle ≤ length old → Filling t cycle old out s → out ≡ reservationList (used t) ++ drop cycle old
+  unfolding reservationList
   fill-end old out s z room g =
       let q : s ≡ 0 = omega arith in
       filled-end (ends (used t)) (whole (used t)) (length (used t)) cycle (rw q at g) room

@@ -13,7 +13,7 @@ use Rattle.table.specs.Check.{rowsRefusal}
 use Rattle.rule.specs.Slots.{unit, firstRow}
 use Rattle.rule.specs.Rule.{takes, short, begins, holder}
 use Rattle.rule.specs.Sweep.{rem}
-use Rattle.reserve.specs.Lists.{reservations}
+use Rattle.reserve.specs.Lists.{reservationList}
 
 -- a table that 1 to 6 accept, with its cycle
 pub record Ready (t : Table) (cycle : ℕ) : Type 0 where
@@ -23,7 +23,7 @@ pub record Ready (t : Table) (cycle : ℕ) : Type 0 where
 -- bytes that begin with the table's reservation list
 pub record Listed (t : Table) (cycle : ℕ) (list : List ℕ) : Type 0 where
   pub room : cycle ≤ length list
-  pub bytes : (s : ℕ) → s < cycle → getD list s 0 ≡ getD (reservations (used t)) s 0
+  pub bytes : (s : ℕ) → s < cycle → getD list s 0 ≡ getD (reservationList (used t)) s 0
 
 -- the lower of two rows, where 0 is none
 unfoldable pub lowerOf : ℕ → ℕ → ℕ

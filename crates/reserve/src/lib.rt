@@ -1,7 +1,9 @@
 // The reservations of a table: whether the rule leaves a job short, which row holds each slot, and when each job's alternate must start.
 ghost use mathlib.Core.Path.{_≡_};
+ghost use Rattle.table.specs.Rows.{used};
 ghost use Rattle.reserve.specs.Check.{tableCheck};
-ghost use Rattle.reserve.specs.Lists.{listAnswer, listBytes, firstsAnswer, firstsPlaces};
+ghost use Rattle.reserve.specs.Lists.{reservationList, firstSlots};
+ghost use Rattle.reserve.specs.HandOut.{handed, handedOver};
 use refusal::Refusal;
 use table::Checked;
 use table::Table;
@@ -9,10 +11,10 @@ use table::Table;
 mod scan;
 mod sweep;
 
-// The answer to a question for first slots: a refusal, and beside an acceptance the number of jobs, else 0.
-pub struct Firsts {
+// The answer of an entry that writes into lent memory: a refusal, and beside an acceptance how many places were written, else 0.
+pub struct Handed {
     pub refusal: Refusal,
-    pub jobs: usize,
+    pub used: usize,
 }
 
 // Refusals 1 to 7 of a table given as rows, and its cycle.
@@ -45,38 +47,39 @@ pub fn check(t: Table) -> Checked
 }
 
 // Writes the reservation list: a byte for each slot of the cycle, 0 for free or the row. Later bytes stay, and a refusal writes nothing.
-pub fn reservations(t: Table, out: &mut [u8]) -> Checked
-    ensures answer { λ r. ⌜ r ≡ listAnswer t (now (out .entry)) ⌝ }
-    ensures bytes { λ _. ⌜ now (out .exit) ≡ listBytes t (now (out .entry)) ⌝ }
+pub fn reservations(t: Table, out: &mut [u8]) -> Handed
+    ensures answer { λ r. ⌜ r ≡ handed t (reservationList (used t)) (now (out .entry)) ⌝ }
+    ensures bytes { λ _. ⌜ now (out .exit) ≡ handedOver t (reservationList (used t)) (now (out .entry)) ⌝ }
 {
     let checked = check(t);
     let f = checked.refusal;
     match f {
         Refusal::None => {
             let cycle = checked.cycle;
-            if out.len() < cycle as usize {
-                return Checked {
+            let slots = cycle as usize;
+            if out.len() < slots {
+                return Handed {
                     refusal: Refusal::Room,
-                    cycle: 0,
+                    used: 0,
                 };
             }
             sweep::fill(t, cycle, out);
-            Checked {
+            Handed {
                 refusal: Refusal::None,
-                cycle,
+                used: slots,
             }
         }
-        _ => Checked {
+        _ => Handed {
             refusal: f,
-            cycle: 0,
+            used: 0,
         },
     }
 }
 
 // Writes the first slot of each job, rows in order. Later places stay, and a refusal writes nothing.
-pub fn first_slots(t: Table, out: &mut [u16]) -> Firsts
-    ensures answer { λ r. ⌜ r ≡ firstsAnswer t (now (out .entry)) ⌝ }
-    ensures places { λ _. ⌜ now (out .exit) ≡ firstsPlaces t (now (out .entry)) ⌝ }
+pub fn first_slots(t: Table, out: &mut [u16]) -> Handed
+    ensures answer { λ r. ⌜ r ≡ handed t (firstSlots (used t)) (now (out .entry)) ⌝ }
+    ensures places { λ _. ⌜ now (out .exit) ≡ handedOver t (firstSlots (used t)) (now (out .entry)) ⌝ }
 {
     let checked = check(t);
     let f = checked.refusal;
@@ -85,22 +88,22 @@ pub fn first_slots(t: Table, out: &mut [u16]) -> Firsts
             let cycle = checked.cycle;
             let jobs = scan::count_jobs(t, cycle);
             if out.len() < jobs {
-                return Firsts {
+                return Handed {
                     refusal: Refusal::Room,
-                    jobs: 0,
+                    used: 0,
                 };
             }
             let mut list = [0u8; 4096];
             sweep::fill(t, cycle, &mut list);
             scan::put_firsts(t, cycle, &list, out);
-            Firsts {
+            Handed {
                 refusal: Refusal::None,
-                jobs,
+                used: jobs,
             }
         }
-        _ => Firsts {
+        _ => Handed {
             refusal: f,
-            jobs: 0,
+            used: 0,
         },
     }
 }

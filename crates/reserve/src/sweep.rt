@@ -10,7 +10,7 @@ ghost use Rattle.table.specs.Windows.{windowEnd, wants, starts};
 ghost use Rattle.rule.specs.Slots.{orRow};
 ghost use Rattle.reserve.specs.Tables.{ends, whole};
 ghost use Rattle.reserve.specs.Check.{tightOf};
-ghost use Rattle.reserve.specs.Lists.{reservations};
+ghost use Rattle.reserve.specs.Lists.{reservationList};
 ghost use Rattle.reserve.specs.Turns.{Ready, lowerOf, Coming, Turned};
 use table::Row;
 use table::Table;
@@ -137,7 +137,7 @@ pub(crate) fn tight_row(t: Table, cycle: u16) -> u8
 // Writes each slot's holder. Bytes past the cycle stay.
 pub(crate) fn fill(t: Table, cycle: u16, out: &mut [u8])
     requires { ⌜ Ready t cycle × (cycle ≤ length (now out)) ⌝ }
-    ensures { λ _. ⌜ now (out .exit) ≡ reservations (used t) ++ drop cycle (now (out .entry)) ⌝ }
+    ensures { λ _. ⌜ now (out .exit) ≡ reservationList (used t) ++ drop cycle (now (out .entry)) ⌝ }
 {
     let mut rests = [0u16; 16];
     let mut s = cycle;

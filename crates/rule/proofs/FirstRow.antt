@@ -75,6 +75,3 @@ module _ (P : ℕ → Bool) where
       same j b =
           ⊎-elim (λ u. never (b .here) (a .none-before j u))
           (λ u. ⊎-elim (λ v. never (a .here) (b .none-before i v)) (λ v. omega arith) (side i j)) (side j i)
-
-  pub firstRow-le : (n : ℕ) → firstRow P n ≤ n
-  firstRow-le n = ⊎-elim (λ h. omega (arith, h .0)) (λ h. omega (arith, h .1, h .2 .row)) (cases n)

@@ -66,10 +66,6 @@ module _ (r : Row) (good : Good r) where
       omega (arith, in-window s, end-within (suc s) s d (omega arith))
 
   -- ---- the window of job j. Jobs are counted from 1, and L is a multiple of the period: laws that need neither ask it too, so that those of other windows can stand in for them
-  pub opens-next : (j : ℕ) → 1 ≤ j → closes r j ≡ opens r (suc j)
-  unfolding opens closes
-  opens-next j l = let e : suc j - 1 ≡ j = omega arith in rw e
-
   pub end-opens : (j : ℕ) → 1 ≤ j → windowEnd r (opens r j) ≡ closes r j
   unfolding opens closes windowEnd
   end-opens j l = let e : j - 1 + 1 ≡ j = omega arith in rw (mul-div-cancel (j - 1) (good .period), e)
