@@ -35,7 +35,7 @@ use Rattle.rule.proofs.Sweep.{sweep-is}
 use Rattle.reserve.specs.Tables.{ends, whole}
 use Rattle.reserve.specs.Check.{tightOf, tableRefusal}
 use Rattle.reserve.specs.Lists.{reservationList, jobsOf, firstSlots}
-use Rattle.reserve.specs.Demand.{InCycle, Assigned, listed, ShortJob, TightAt, placeOf, FirstReserved}
+use Rattle.reserve.specs.Demand.{InCycle, Assigned, listed, ShortJob, TightAt, jobPlace, FirstReserved}
 use Rattle.reserve.proofs.Tables.{AllGood, windows-of, claims-of, ends-within, ends-last}
 use Rattle.reserve.proofs.JobWindows.{follows-assigned, assigned-follows, short-lacks, lacks-short}
 use Rattle.reserve.proofs.FirstSlots.{byte-takes, first-at, first-listed}
@@ -149,7 +149,7 @@ module _ (t : Table) (e : rowsRefusal t ≡ None) where
 
   -- ---- the first slots are those of the reservation list
   pub firsts-reserved : tableRefusal t ≡ None → (i j : ℕ) → i < length rs → InCycle rs i j
-      → FirstReserved (reservationList rs) (suc i) (opens (rowAt rs i) j) (closes (rowAt rs i) j) (getD (firstSlots rs) (placeOf rs i j) 0)
+      → FirstReserved (reservationList rs) (suc i) (opens (rowAt rs i) j) (closes (rowAt rs i) j) (getD (firstSlots rs) (jobPlace rs i j) 0)
   unfolding jobsOf
   firsts-reserved d i j l c =
       let r = rowAt rs i in

@@ -21,7 +21,7 @@ use Rattle.rule.proofs.Holders.{holder-is, is-holder}
 use Rattle.rule.proofs.HolderList.{getD-holders}
 use Rattle.reserve.specs.Tables.{ends, whole}
 use Rattle.reserve.specs.Lists.{reservationList, jobsOf, jobFirsts, rowFirsts, firstSlots}
-use Rattle.reserve.specs.Demand.{jobsFrom, placeOf}
+use Rattle.reserve.specs.Demand.{jobsFrom, jobPlace}
 use Rattle.reserve.proofs.Tables.{AllGood}
 
 -- ---- how many
@@ -62,8 +62,8 @@ row-at rs (suc d) i (suc n) x l u =
     rw (e, q) (getD-append-add (jobFirsts rs i 1 (jobsOf rs i)) (rowFirsts rs (suc i) n) (jobsFrom rs (suc i) d + x) 0 ∙ row-at rs d (suc i) n x (omega arith) u')
 
 pub first-at : (rs : List Row) (i j : ℕ) → i < length rs → 1 ≤ j → j ≤ jobsOf rs i
-    → getD (firstSlots rs) (placeOf rs i j) 0 ≡ first (ends rs) (whole rs) i (opens (rowAt rs i) j)
-unfolding firstSlots placeOf
+    → getD (firstSlots rs) (jobPlace rs i j) 0 ≡ first (ends rs) (whole rs) i (opens (rowAt rs i) j)
+unfolding firstSlots jobPlace
 first-at rs i j l p u =
     let z : 0 + i ≡ i = omega arith in
     let e : 1 + (j - 1) ≡ j = omega arith in

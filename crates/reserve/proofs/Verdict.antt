@@ -1,6 +1,7 @@
 -- The answer of a table's check, from what the code has found on each way out.
 -- Assumes nothing.
 use mathlib.Core.Path.{_≡_, refl, sym, ap, _∙_}
+use mathlib.Core.List.{List}
 use Prim.Native.Nat.{ℕ, _≤_}
 use native.Mathlib.Omega.{arith}
 use native.Mathlib.Nat.{pos-of-ne-zero}
@@ -14,7 +15,9 @@ use Rattle.table.specs.declared.Table.{Table}
 use Rattle.table.specs.declared.Checked.{Checked}
 use Rattle.table.specs.Rows.{used, cycleOf}
 use Rattle.table.specs.Check.{rowsRefusal, rowsCheck}
+use Rattle.table.proofs.Check.{past-ignored}
 use Rattle.reserve.specs.Check.{tightOf, tableRefusal, tableCheck}
+use Rattle.reserve.specs.HandOut.{handedRefusal, handed, handedOver}
 use Rattle.reserve.specs.Turns.{Ready}
 use Rattle.reserve.proofs.Ready.{cycle-fits}
 
@@ -65,3 +68,21 @@ module _ (t : Table) (checked : Checked) (e : checked ≡ tableCheck t) where
 
   pub table-fits : checked .refusal ≡ None → checked .cycle ≤ 4096
   table-fits d = cycle-fits (table-ready d)
+
+-- ---- places past the rows are ignored, whatever they hold
+module _ (t t' : Table) (n : t .n ≡ t' .n) (u : used t ≡ used t') where
+  same-refusal : tableRefusal t ≡ tableRefusal t'
+  unfolding tableRefusal
+  same-refusal = rw (past-ignored t t' n u, u)
+
+  pub check-past : tableCheck t ≡ tableCheck t'
+  unfolding tableCheck
+  check-past = rw (same-refusal, u)
+
+  same-handed : (new old : List ℕ) → handedRefusal t new old ≡ handedRefusal t' new old
+  unfolding handedRefusal
+  same-handed new old = rw same-refusal
+
+  pub handed-past : (new old : List ℕ) → (handed t new old ≡ handed t' new old) × (handedOver t new old ≡ handedOver t' new old)
+  unfolding handed handedOver
+  handed-past new old = (rw (same-handed new old), rw (same-handed new old))

@@ -44,8 +44,8 @@ jobsFrom rs i zero = 0
 jobsFrom rs i (suc d) = jobsOf rs i + jobsFrom rs (suc i) d
 
 -- where job j of row i stands among the first slots, places counted from 0: after the jobs of the rows above and the row's own j - 1 before it
-unfoldable pub placeOf : List Row → ℕ → ℕ → ℕ
-placeOf rs i j = jobsFrom rs 0 i + (j - 1)
+unfoldable pub jobPlace : List Row → ℕ → ℕ → ℕ
+jobPlace rs i j = jobsFrom rs 0 i + (j - 1)
 
 -- 'The first reserved slot of a job': of the row that a list names by the byte k, in the window from w up to, not including, e
 pub record FirstReserved (list : List ℕ) (k w e s : ℕ) : Type 0 where

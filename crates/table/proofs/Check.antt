@@ -1,6 +1,6 @@
 -- The check of a table: what an acceptance says, both ways, and the cases of its answer, each from the facts on the code's way to it.
 -- Assumes nothing.
-use mathlib.Core.Path.{_≡_, refl, sym, _∙_}
+use mathlib.Core.Path.{_≡_, refl, sym, ap, _∙_}
 use mathlib.Core.Logic.{⊎-elim}
 use mathlib.Core.List.{List, [], _∷_}
 use Prim.Native.Nat.{ℕ, zero, suc, _+_, _≤_, _<_}
@@ -118,3 +118,11 @@ module _ (t : Table) where
 
   pub accepted-pos : Accepted t → 0 < cycleOf (used t)
   accepted-pos a = cycle-pos (used t) (λ i l. a .good i l .period)
+
+-- ---- places past the rows are ignored, whatever they hold
+pub past-ignored : (t t' : Table) → t .n ≡ t' .n → used t ≡ used t' → rowsRefusal t ≡ rowsRefusal t'
+unfolding rowsRefusal
+past-ignored t t' n u = ap (λ (m : ℕ). of m (used t)) n ∙ ap (of (t' .n)) u
+  where
+    of : ℕ → List Row → Refusal
+    of m rs = orElse (given (eqb m 0) Empty) (orElse (given (ltb 16 m) Many) (orElse (faultsOf 1 0 rs) (given (ltb 4096 (cycleOf rs)) Cycle)))

@@ -7,7 +7,7 @@ use Rattle.table.specs.declared.Row.{Row}
 use Rattle.table.specs.declared.Table.{Table}
 use Rattle.table.specs.Gcd.{lcmOf}
 
--- 'Places past the n rows .. in a table given as rows they are ignored'
+-- the n rows; of the places past them, 'in a table given as rows they are ignored'
 unfoldable pub used : Table → List Row
 used t = take (t .n) (t .rows)
 
