@@ -1,24 +1,16 @@
 -- Document 01's examples of tables as one table of cases: P1, P4 to P8.
 -- Assumes nothing: these are definitions.
-use Prim.Native.Nat.{ℕ, zero, suc, _+_}
+use Prim.Native.Nat.{ℕ, suc}
 use mathlib.Core.Bool.{Bool, true, false, cond, _&&_}
 use mathlib.Core.List.{List, [], _∷_}
 use lib.Dec.{eqb}
 use lib.ListN.{length}
 use Rattle.refusal.specs.Numbers.{numberOf, rowOf}
-use Rattle.refusal.specs.Order.{orElse, beside}
 use Rattle.table.specs.declared.Row.{Row}
 use Rattle.table.specs.declared.Table.{Table}
-use Rattle.table.specs.Gcd.{gcdIn, gcdOf, lcmOf}
-use Rattle.table.specs.Rows.{used, foldOf, cycleOf}
-use Rattle.table.specs.Windows.{opens, windowEnd, wants}
-use Rattle.table.specs.Check.{faultOf, faultsOf, rowsRefusal}
-use Rattle.rule.specs.Slots.{count, some, firstOf, orRow, firstRow}
-use Rattle.rule.specs.Rule.{held, takes, holder, first, short, begins, lacks, tightRow}
-use Rattle.rule.specs.Sweep.{holders}
-use Rattle.reserve.specs.Tables.{ends, whole}
-use Rattle.reserve.specs.Check.{tightOf, tableRefusal, tableCheck}
-use Rattle.reserve.specs.Lists.{reservationList, jobsOf, jobFirsts, rowFirsts, firstSlots}
+use Rattle.table.specs.Rows.{cycleOf}
+use Rattle.reserve.specs.Check.{tableCheck}
+use Rattle.reserve.specs.Lists.{reservationList, firstSlots}
 
 abbrev row : ℕ → ℕ → ℕ → Row
 row t p a = record { period = t; primary = p; alternate = a }
@@ -29,30 +21,31 @@ table rs = record { n = length rs; rows = rs }
 pub data Case : Type 0 where
   -- a table's number of refusal, the row named, and the cycle
   checked : List Row → ℕ → ℕ → ℕ → Case
+  -- the least common multiple of the periods
+  cycling : List Row → ℕ → Case
   -- a table's first slots, rows in order
   starting : List Row → List ℕ → Case
   -- the slots that a row, counted from 1, holds
   holding : List Row → ℕ → List ℕ → Case
 
-unfoldable same : List ℕ → List ℕ → Bool
+unfoldable pub same : List ℕ → List ℕ → Bool
 same [] [] = true
 same [] (y ∷ ys) = false
 same (x ∷ xs) [] = false
 same (x ∷ xs) (y ∷ ys) = eqb x y && same xs ys
 
 -- the places of the byte k in a list whose first place is s
-unfoldable places : ℕ → ℕ → List ℕ → List ℕ
+unfoldable pub places : ℕ → ℕ → List ℕ → List ℕ
 places k s [] = []
 places k s (x ∷ xs) = cond (eqb x k) (s ∷ places k (suc s) xs) (places k (suc s) xs)
 
 unfoldable pub passes : Case → Bool
-unfolding same places orElse beside gcdIn gcdOf lcmOf used foldOf cycleOf opens windowEnd wants faultOf faultsOf rowsRefusal count some firstOf orRow firstRow held takes holder first short begins lacks tightRow holders ends whole tightOf tableRefusal tableCheck reservationList jobsOf jobFirsts rowFirsts firstSlots
 passes (checked rs n k c) = eqb (numberOf (tableCheck (table rs) .refusal)) n && (eqb (rowOf (tableCheck (table rs) .refusal)) k && eqb (tableCheck (table rs) .cycle) c)
+passes (cycling rs c) = eqb (cycleOf rs) c
 passes (starting rs xs) = same (firstSlots rs) xs
 passes (holding rs k xs) = same (places k 0 (reservationList rs)) xs
 
 unfoldable pub all : List Case → Bool
-unfolding passes
 all [] = true
 all (x ∷ xs) = passes x && all xs
 
@@ -68,6 +61,7 @@ cases =
     ∷ holding (row 4 1 2 ∷ row 6 1 2 ∷ []) 2 (4 ∷ 5 ∷ 8 ∷ 9 ∷ [])
     -- P6, P7
     ∷ checked (row 63 1 1 ∷ row 64 1 1 ∷ []) 0 0 4032
+    ∷ cycling (row 64 1 1 ∷ row 65 1 1 ∷ []) 4160
     ∷ checked (row 64 1 1 ∷ row 65 1 1 ∷ []) 6 0 0
     -- P8
     ∷ checked (row 4 1 4 ∷ []) 0 0 4
