@@ -25,17 +25,17 @@ lower-none a = simp (ne-eqb (suc a) 0 (λ e. omega arith))
 
 module _ (P Q : ℕ → Bool) (n : ℕ) where
   -- both first rows, by their cases
-  go : (a b : ℕ) → firstRow P n ≡ a → firstRow Q n ≡ b → firstRow (λ i. P i || Q i) n ≡ lowerOf a b
+  by-cases : (a b : ℕ) → firstRow P n ≡ a → firstRow Q n ≡ b → firstRow (λ i. P i || Q i) n ≡ lowerOf a b
   unfolding lowerOf
-  go zero zero p q = found-none (λ i. P i || Q i) n (λ i l. or-none (P i) (Q i) (none-found P n p i l) (none-found Q n q i l))
-  go zero (suc b) p q =
+  by-cases zero zero p q = found-none (λ i. P i || Q i) n (λ i l. or-none (P i) (Q i) (none-found P n p i l) (none-found Q n q i l))
+  by-cases zero (suc b) p q =
       let f : FirstAt Q n b = row-first Q n b q in
       first-row (λ i. P i || Q i) n b (record {
         row = f .row;
         here = or-right (P b) (Q b) (f .here);
         none-before = λ j l. or-none (P j) (Q j) (none-found P n p j (omega (arith, f .row))) (f .none-before j l);
       })
-  go (suc a) zero p q =
+  by-cases (suc a) zero p q =
       let f : FirstAt P n a = row-first P n a p in
       first-row (λ i. P i || Q i) n a (record {
         row = f .row;
@@ -43,7 +43,7 @@ module _ (P Q : ℕ → Bool) (n : ℕ) where
         none-before = λ j l. or-none (P j) (Q j) (f .none-before j l) (none-found Q n q j (omega (arith, f .row)));
       })
       ∙ sym (lower-none a)
-  go (suc a) (suc b) p q =
+  by-cases (suc a) (suc b) p q =
       let f : FirstAt P n a = row-first P n a p in
       let g : FirstAt Q n b = row-first Q n b q in
       ⊎-elim
@@ -64,4 +64,4 @@ module _ (P Q : ℕ → Bool) (n : ℕ) where
       (side a b)
 
   pub first-of-two : firstRow (λ i. P i || Q i) n ≡ lowerOf (firstRow P n) (firstRow Q n)
-  first-of-two = go (firstRow P n) (firstRow Q n) refl refl
+  first-of-two = by-cases (firstRow P n) (firstRow Q n) refl refl

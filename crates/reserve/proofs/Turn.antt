@@ -18,7 +18,7 @@ use Rattle.table.specs.Windows.{windowEnd, wants}
 use Rattle.rule.specs.Slots.{unit, orRow, firstRow}
 use Rattle.rule.specs.Rule.{held, takes, holder, short, begins, Windows, Claims}
 use Rattle.rule.specs.Sweep.{rem}
-use Rattle.rule.proofs.Tests.{split, side, both-ways}
+use Rattle.rule.proofs.Tests.{split, side, never, both-ways}
 use Rattle.rule.proofs.Facts.{from, leaves-held, short-few, short-not}
 use Rattle.rule.proofs.FirstRow.{row-found, firstRow-suc}
 use Rattle.rule.proofs.Holders.{holder-free, free-holder, holder-suc}
@@ -48,13 +48,8 @@ module _ {E K : ℕ → ℕ → ℕ} {n : ℕ} (win : Windows E n) (cl : Claims 
   -- `found` is the slot's holder among the rows above
   module _ (found : ℕ) (e : found ≡ holder E K i s) where
     taken-above : held E K i s ≡ true → 0 < found
-    taken-above h = ⊎-elim (λ (z : 0 < found). z) (λ (z : found ≤ 0). absurd (clash (free-holder E K i s (sym e ∙ zero z)))) (side 0 found)
-      where
-        zero : found ≤ 0 → found ≡ 0
-        zero z = omega arith
-
-        clash : held E K i s ≡ false → ⊥
-        clash k = let z : _≡_ {A = ℕ} 0 1 = cc in omega arith
+    taken-above h =
+        ⊎-elim (λ (z : 0 < found). z) (λ (z : found ≤ 0). let q : found ≡ 0 = omega arith in never h (free-holder E K i s (sym e ∙ q))) (side 0 found)
 
     spends : cond (eqb found 0) (rem E K i s - 1) (rem E K i s) ≡ rem E K i s - unit (takes E K i s)
     spends =

@@ -28,19 +28,16 @@ job-first-requires c κs =
 cast-out : tie.Need-cast-out Inv-loop μ-loop
 cast-out c = search needs
 
-add-out : tie.Need-add-out Inv-loop μ-loop
-add-out c =
-    let at-loop = c .before .before in
-    let start = at-loop .before .before .before .before in
-    let room = start .good .1 .1 .1 .1 .0 .1 in
-    omega (arith, c .before .loop-test .taken, at-loop .loop .inv .are, start .pre .3)
-
+-- the offset of the place in bytes fits, and so does the place
 mul-out : tie.Need-mul-out Inv-loop μ-loop
 mul-out c =
     let at-loop = c .before .before in
     let start = at-loop .before .before .before .before in
     let room = start .good .1 .1 .1 .1 .0 .1 in
     omega (arith, c .before .loop-test .taken, at-loop .loop .inv .are, start .pre .3)
+
+add-out : tie.Need-add-out Inv-loop μ-loop
+add-out c = omega (arith, mul-out c)
 
 slice-write-out : tie.Need-slice-write-out Inv-loop μ-loop
 slice-write-out c =
