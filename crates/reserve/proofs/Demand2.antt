@@ -1,4 +1,4 @@
--- Demand 2, its static part: the reservationList of a table are those of the backward rate-monotonic rule as document 01 fixes it, and a table that passes the earlier
+-- Demand 2, its static part: the reservations of a table are those of the backward rate-monotonic rule as document 01 fixes it, and a table that passes the earlier
 -- checks is refused as tight exactly when that rule leaves a job short. docs/PROMISES.md names these theorems.
 -- Assumes nothing.
 use mathlib.Core.Path.{_≡_, refl, sym, ap, _∙_}
@@ -8,12 +8,9 @@ use mathlib.Core.List.{List}
 use Prim.Native.Nat.{ℕ, zero, suc, _-_, _≤_, _<_}
 use native.Mathlib.Omega.{arith}
 use borrow.Author.Tests.{lt-ltb, le-ltb, eqb-true, eqb-false}
-use lib.Dec.{ltb}
 use lib.ListN.{length, getD}
 use Rattle.refusal.specs.declared.Refusal.the-variants.{None, Tight}
 use Rattle.refusal.specs.Numbers.{numberOf, rowOf}
-use Rattle.refusal.specs.Order.{given}
-use Rattle.refusal.proofs.Order.{passes}
 use Rattle.table.specs.declared.Row.{Row}
 use Rattle.table.specs.declared.Table.{Table}
 use Rattle.table.specs.Rows.{rowAt, used, cycleOf}
@@ -24,7 +21,6 @@ use Rattle.table.proofs.Cycle.{cycle-multiple}
 use Rattle.table.proofs.Windows.{opens-first, count-closes}
 use Rattle.rule.specs.Slots.{within, firstOf}
 use Rattle.rule.specs.Rule.{takes, lacks}
-use Rattle.rule.specs.Words.{above, Reserves}
 use Rattle.rule.specs.Sweep.{sweep}
 use Rattle.rule.proofs.Tests.{side, false-if, never}
 use Rattle.rule.proofs.FirstRow.{FirstAt}
@@ -37,6 +33,7 @@ use Rattle.reserve.specs.Check.{tightOf, tableRefusal}
 use Rattle.reserve.specs.Lists.{reservationList, jobsOf, firstSlots}
 use Rattle.reserve.specs.Demand.{InCycle, Assigned, listed, ShortJob, TightAt, jobPlace, FirstReserved}
 use Rattle.reserve.proofs.Tables.{AllGood, windows-of, claims-of, ends-within, ends-last}
+use Rattle.reserve.proofs.Verdict.{after-rows}
 use Rattle.reserve.proofs.JobWindows.{follows-assigned, assigned-follows, short-lacks, lacks-short}
 use Rattle.reserve.proofs.FirstSlots.{byte-takes, first-at, first-listed}
 
@@ -48,15 +45,11 @@ module _ (t : Table) (e : rowsRefusal t ≡ None) where
   good : AllGood rs
   good = accepted-rows t e .good
 
-  last : given (ltb 0 (tightOf rs)) (Tight (tightOf rs)) ≡ tableRefusal t
-  unfolding tableRefusal
-  last = passes (rowsRefusal t) (given (ltb 0 (tightOf rs)) (Tight (tightOf rs))) e
-
   refusal-none : tightOf rs ≡ 0 → tableRefusal t ≡ None
-  refusal-none h = sym (rw (le-ltb 0 (tightOf rs) (omega arith)) at last)
+  refusal-none h = sym (rw (le-ltb 0 (tightOf rs) (omega arith)) at (after-rows t e))
 
   refusal-tight : (i : ℕ) → tightOf rs ≡ suc i → tableRefusal t ≡ Tight (suc i)
-  refusal-tight i h = sym (rw (lt-ltb 0 (tightOf rs) (omega arith)) at last) ∙ ap Tight h
+  refusal-tight i h = sym (rw (lt-ltb 0 (tightOf rs) (omega arith)) at (after-rows t e)) ∙ ap Tight h
 
   none-refusal : tableRefusal t ≡ None → tightOf rs ≡ 0
   none-refusal d = go (tightOf rs) refl
@@ -114,18 +107,13 @@ module _ (t : Table) (e : rowsRefusal t ≡ None) where
   list-takes i s l u = sym (byte-takes rs i s l u)
 
   -- 'each job reserves the latest a slots of its window that no higher row holds': so does the list
-  reserved : tableRefusal t ≡ None → (i j : ℕ) → i < length rs → InCycle rs i j
-      → Reserves (above (listed (reservationList rs)) i) (listed (reservationList rs) i) (opens (rowAt rs i) j) (closes (rowAt rs i) j) (rowAt rs i .alternate)
+  pub list-reserves : tableRefusal t ≡ None → Assigned rs (listed (reservationList rs))
   unfolding Assigned
-  reserved d i j l c =
+  list-reserves d i j l c =
       reserves-same
       (λ s u. above-same (takes (ends rs) (whole rs)) (listed (reservationList rs)) s i (λ k v. list-takes k s (omega arith) (omega (arith, c .1))))
       (λ s u. list-takes i s l (omega (arith, c .1)))
       (follows-assigned rs good (takes (ends rs) (whole rs)) (rule-follows (windows-of rs good) (claims-of rs good) 0 (cycleOf rs) (enough (none-refusal d))) i j l c)
-
-  pub list-reserves : tableRefusal t ≡ None → Assigned rs (listed (reservationList rs))
-  unfolding Assigned
-  list-reserves d = reserved d
 
   -- and it is the only assignment that does: where there is one, the table is accepted, and the assignment is the list's
   module _ (A : ℕ → ℕ → Bool) (a : Assigned rs A) where
@@ -150,11 +138,11 @@ module _ (t : Table) (e : rowsRefusal t ≡ None) where
   -- ---- the first slots are those of the reservation list
   pub firsts-reserved : tableRefusal t ≡ None → (i j : ℕ) → i < length rs → InCycle rs i j
       → FirstReserved (reservationList rs) (suc i) (opens (rowAt rs i) j) (closes (rowAt rs i) j) (getD (firstSlots rs) (jobPlace rs i j) 0)
-  unfolding jobsOf
+  unfolding jobsOf Assigned
   firsts-reserved d i j l c =
       let r = rowAt rs i in
       let n : j ≤ jobsOf rs i = count-closes r (good i l) (cycleOf rs) j (cycle-multiple rs i l) (c .1) in
-      let m : 0 < within (listed (reservationList rs) i) (opens r j) (closes r j) = omega (arith, good i l .alternate, reserved d i j l c .exactly) in
+      let m : 0 < within (listed (reservationList rs) i) (opens r j) (closes r j) = omega (arith, good i l .alternate, list-reserves d i j l c .exactly) in
       let g : FoundFirst (listed (reservationList rs) i) (opens r j) (closes r j - opens r j) (firstOf (listed (reservationList rs) i) (opens r j) (closes r j - opens r j))
       = firstOf-found (listed (reservationList rs) i) (opens r j) (closes r j - opens r j) m in
       rw (first-at rs i j l (c .0) n, first-listed rs good i j l (c .0) n)

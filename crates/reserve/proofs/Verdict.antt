@@ -21,6 +21,12 @@ use Rattle.reserve.specs.HandOut.{handedRefusal, handed, handedOver}
 use Rattle.reserve.specs.Turns.{Ready}
 use Rattle.reserve.proofs.Ready.{cycle-fits}
 
+-- where 1 to 6 accept, the rule decides
+pub after-rows : (t : Table) → rowsRefusal t ≡ None → given (ltb 0 (tightOf (used t))) (Tight (tightOf (used t))) ≡ tableRefusal t
+unfolding tableRefusal
+after-rows t e = passes (rowsRefusal t) (given (ltb 0 (tightOf (used t))) (Tight (tightOf (used t)))) e
+
+-- ---- the ways out of the check, after that of the rows
 module _ (t : Table) (rows : Checked) (e : rows ≡ rowsCheck t) where
   is-refusal : rows .refusal ≡ rowsRefusal t
   unfolding rowsCheck
@@ -44,8 +50,7 @@ module _ (t : Table) (rows : Checked) (e : rows ≡ rowsCheck t) where
 
   module _ (d : rows .refusal ≡ None) (k : ℕ) (h : k ≡ tightOf (used t)) where
     last : given (ltb 0 k) (Tight k) ≡ tableRefusal t
-    unfolding tableRefusal
-    last = rw h (passes (rowsRefusal t) (given (ltb 0 (tightOf (used t))) (Tight (tightOf (used t)))) (sym is-refusal ∙ d))
+    last = rw h (after-rows t (sym is-refusal ∙ d))
 
     pub check-none : k ≡ 0 → _≡_ {A = Checked} (record { refusal = None; cycle = rows .cycle }) (tableCheck t)
     check-none z = answered None (rows .cycle) (rw (le-ltb 0 k (omega arith)) at last) (rows-ready d .is-cycle ∙ beside-none None (cycleOf (used t)) refl)

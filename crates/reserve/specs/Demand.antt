@@ -1,4 +1,4 @@
--- The terms of demand 2's static part: what document 01 says of a table's reservationList, job by job, with no sweep and no code in it.
+-- The terms of demand 2's static part: what document 01 says of a table's reservations, job by job, with no sweep and no code in it.
 -- Assumes nothing: these are definitions.
 use mathlib.Core.Path.{_≡_}
 use mathlib.Core.Logic.{_≢_}

@@ -34,7 +34,7 @@ pub fn gcd(x: u16, y: u16) -> u16
     if y == 0 { x } else { gcd(y, x % y) }
 }
 
-// The least common multiple of c and p, and 0 where that is over 4,096: then the cycle is over too, whatever comes after.
+// The least common multiple of c and p, and 0 where that is over 4,096. Then the cycle of periods that are not 0 is over too, and 0 stays 0.
 fn join(c: u16, p: u16) -> u16
     ensures { λ r. ⌜ r ≡ cond (leb (lcmOf c p) 4096) (lcmOf c p) 0 ⌝ }
 {
