@@ -12,7 +12,7 @@ use Rattle.refusal.specs.declared.Refusal.{Refusal}
 use Rattle.refusal.specs.declared.Refusal.the-variants.{None, Room}
 use Rattle.refusal.specs.Order.{given, orElse, beside}
 use Rattle.refusal.specs.Lent.{overlaid}
-use Rattle.refusal.proofs.Order.{Told, keeps, passes, beside-refused, beside-none}
+use Rattle.refusal.proofs.Order.{Told, keeps, passes, none-first, beside-refused, beside-none}
 use Rattle.refusal.proofs.Lent.{overlaid-refused, overlaid-none, sets-laid}
 use Rattle.table.specs.declared.Table.{Table}
 use Rattle.table.specs.declared.Checked.{Checked}
@@ -76,6 +76,25 @@ module _ (t : Table) (checked : Checked) (e : checked ≡ tableCheck t) (new old
 
     pub set-over : (out : List ℕ) → size ≤ length old → out ≡ sets old 0 new → out ≡ handedOver t new old
     set-over out l h = laid-over out l (h ∙ sets-laid new old (omega arith) ∙ rw n)
+
+-- ---- what an acceptance says of what was handed out, and when there is one
+module _ (t : Table) (new old : List ℕ) where
+  pub out-none : tableRefusal t ≡ None → length new ≤ length old → handedRefusal t new old ≡ None
+  unfolding handedRefusal
+  out-none e l = sym (passes (tableRefusal t) (given (ltb (length old) (length new)) Room) e) ∙ rw (le-ltb (length old) (length new) l)
+
+  module _ (e : handedRefusal t new old ≡ None) where
+    pub out-table : tableRefusal t ≡ None
+    unfolding handedRefusal
+    out-table = none-first _ _ e
+
+    pub out-used : handed t new old .used ≡ length new
+    unfolding handed
+    out-used = sym (beside-none (handedRefusal t new old) (length new) e)
+
+    pub out-places : handedOver t new old ≡ new ++ drop (length new) old
+    unfolding handedOver
+    out-places = sym (overlaid-none (handedRefusal t new old) new old e)
 
 -- ---- the reservation list
 list-long : (t : Table) → length (reservationList (used t)) ≡ cycleOf (used t)

@@ -11,4 +11,6 @@ pub mod Verdict
 pub mod HandedOut
 pub mod JobWindows
 pub mod Demand2
+pub mod Exactly
+pub mod JobsFit
 pub mod Unique

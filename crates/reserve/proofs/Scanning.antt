@@ -70,7 +70,7 @@ unfolding rowFirsts
 rest-none t i l = let q : t .n - i ≡ 0 = omega arith in rw q
 
 -- ---- counting the jobs, with the rows before row i counted
-pub record Counted (t : Table) (i jobs : ℕ) : Type 0 where
+pub record CountedTo (t : Table) (i jobs : ℕ) : Type 0 where
   pub upto : i ≤ t .n
   pub few-rows : t .n ≤ 16
   pub few-jobs : jobs ≤ i * 4096
@@ -81,13 +81,13 @@ module _ {t : Table} {cycle : ℕ} (r : Ready t cycle) where
   unfolding jobsOf
   jobs-few i = omega (arith, r .is-cycle, cycle-fits r, div-le-self (cycleOf (used t)) (rowAt (used t) i .period))
 
-  pub count-start : length (t .rows) ≡ 16 → Counted t 0 0
+  pub count-start : length (t .rows) ≡ 16 → CountedTo t 0 0
   unfolding firstSlots
   count-start e =
       let q : t .n - 0 ≡ length (used t) = omega (arith, size r e) in
       record { upto = omega arith; few-rows = few r; few-jobs = omega arith; total = rw q (omega arith) }
 
-  pub count-step : {i jobs k : ℕ} → Counted t i jobs → i < t .n → k ≡ jobsOf (used t) i → Counted t (i + 1) (jobs + k)
+  pub count-step : {i jobs k : ℕ} → CountedTo t i jobs → i < t .n → k ≡ jobsOf (used t) i → CountedTo t (i + 1) (jobs + k)
   count-step {i} {jobs} {k} g l h = record {
     upto = omega arith;
     few-rows = g .few-rows;
@@ -95,7 +95,10 @@ module _ {t : Table} {cycle : ℕ} (r : Ready t cycle) where
     total = omega (arith, g .total, ap length (rest-step t i l), length-append (jobFirsts (used t) i 1 (jobsOf (used t) i)) (Rest t (i + 1)), job-count (used t) i 1 (jobsOf (used t) i));
   }
 
-  pub count-end : {i jobs : ℕ} → Counted t i jobs → t .n ≤ i → jobs ≡ length (firstSlots (used t))
+  pub count-room : {i jobs k : ℕ} → CountedTo t i jobs → i < t .n → k ≡ jobsOf (used t) i → jobs + k ≤ length (firstSlots (used t))
+  count-room g l h = omega (arith, count-step g l h .total)
+
+  pub count-end : {i jobs : ℕ} → CountedTo t i jobs → t .n ≤ i → jobs ≡ length (firstSlots (used t))
   count-end {i} {jobs} g l = omega (arith, g .total, ap length (rest-none t i l))
 
   -- ---- one job of row i

@@ -76,17 +76,17 @@ module _ (t : Table) (checked : Checked) (e : checked ≡ tableCheck t) where
 
 -- ---- places past the rows are ignored, whatever they hold
 module _ (t t' : Table) (n : t .n ≡ t' .n) (u : used t ≡ used t') where
-  same-refusal : tableRefusal t ≡ tableRefusal t'
+  pub refusal-past : tableRefusal t ≡ tableRefusal t'
   unfolding tableRefusal
-  same-refusal = rw (past-ignored t t' n u, u)
+  refusal-past = rw (past-ignored t t' n u, u)
 
   pub check-past : tableCheck t ≡ tableCheck t'
   unfolding tableCheck
-  check-past = rw (same-refusal, u)
+  check-past = rw (refusal-past, u)
 
   same-handed : (new old : List ℕ) → handedRefusal t new old ≡ handedRefusal t' new old
   unfolding handedRefusal
-  same-handed new old = rw same-refusal
+  same-handed new old = rw refusal-past
 
   pub handed-past : (new old : List ℕ) → (handed t new old ≡ handed t' new old) × (handedOver t new old ≡ handedOver t' new old)
   unfolding handed handedOver

@@ -3,4 +3,5 @@ pub mod Check
 pub mod Lists
 pub mod HandOut
 pub mod Demand
+pub mod Exactly
 pub mod Turns

@@ -74,6 +74,36 @@ within-skip P a c b h l none = go (c - a) a (omega arith) (omega arith)
 pub within-more : (P : ℕ → Bool) (a c b : ℕ) → a ≤ c → c < b → P c ≡ true → within P (suc c) b < within P a b
 within-more P a c b h l f = omega (arith, ap unit f, within-step P c b l, within-later P a c b h)
 
+-- there are no more than slots
+pub within-all : (P : ℕ → Bool) (a b : ℕ) → within P a b ≤ b - a
+within-all P a b = go a (b - a)
+  where
+    one : (x : Bool) → unit x ≤ 1
+    one true = omega arith
+    one false = omega arith
+
+    go : (s n : ℕ) → count P s n ≤ n
+    go s zero = omega (arith, count-none P s)
+    go s (suc n) = omega (arith, count-step P s n, one (P s), go (suc s) n)
+
+-- two stretches, one after the other
+pub within-join : (P : ℕ → Bool) (a c b : ℕ) → a ≤ c → c ≤ b → within P a b ≡ within P a c + within P c b
+within-join P a c b h l = go (c - a) a (omega arith)
+  where
+    go : (n x : ℕ) → c ≡ x + n → within P x b ≡ within P x c + within P c b
+    go zero x e = let q : x ≡ c = omega arith in omega (arith, ap (λ (y : ℕ). within P y b) q, within-none P x c (omega arith))
+    go (suc n) x e = omega (arith, within-step P x b (omega arith), within-step P x c (omega arith), go n (suc x) (omega arith))
+
+-- P holds where Q or R does, and those two hold at no slot together
+pub within-parted : (P Q R : ℕ → Bool) (a b : ℕ) → ((t : ℕ) → a ≤ t → t < b → unit (P t) ≡ unit (Q t) + unit (R t)) → within P a b ≡ within Q a b + within R a b
+within-parted P Q R a b h = go a (b - a) (λ t l u. h t l (omega arith))
+  where
+    go : (s n : ℕ) → ((t : ℕ) → s ≤ t → t < s + n → unit (P t) ≡ unit (Q t) + unit (R t)) → count P s n ≡ count Q s n + count R s n
+    go s zero k = omega (arith, count-none P s, count-none Q s, count-none R s)
+    go s (suc n) k =
+        omega
+        (arith, count-step P s n, count-step Q s n, count-step R s n, k s (omega arith) (omega arith), go (suc s) n (λ t l u. k t (omega arith) (omega arith)))
+
 -- ---- free slots: 1 for a free one, 0 for a held one
 abbrev pub gap : Bool → ℕ
 gap b = unit (not b)

@@ -1,15 +1,16 @@
 -- Each slot has one holder at most, and `holder` names it.
 -- Assumes nothing.
-use mathlib.Core.Path.{_≡_, sym}
+use mathlib.Core.Path.{_≡_, sym, ap}
 use mathlib.Core.Logic.{⊎-elim}
-use mathlib.Core.Bool.{true, false}
-use Prim.Native.Nat.{ℕ, zero, suc, _≤_, _<_}
+use mathlib.Core.Bool.{true, false, not}
+use Prim.Native.Nat.{ℕ, zero, suc, _+_, _≤_, _<_}
 use native.Mathlib.Nat.{eq-or-lt-of-le}
 use native.Mathlib.Omega.{arith}
-use Rattle.rule.specs.Slots.{orRow}
-use Rattle.rule.specs.Rule.{held, takes, holder}
+use Rattle.rule.specs.Slots.{unit, within, orRow}
+use Rattle.rule.specs.Rule.{between, held, takes, holder}
 use Rattle.rule.proofs.Tests.{split, side, never, false-if}
-use Rattle.rule.proofs.Facts.{held-none, held-up, held-taken, held-neither, leaves-held}
+use Rattle.rule.proofs.Counting.{gap, within-parted}
+use Rattle.rule.proofs.Facts.{held-none, held-up, held-taken, held-neither, takes-free, leaves-held}
 use Rattle.rule.proofs.FirstRow.{FirstAt, firstRow-suc, none-found, found-none, row-first, first-row}
 
 module _ (E K : ℕ → ℕ → ℕ) where
@@ -32,6 +33,16 @@ module _ (E K : ℕ → ℕ → ℕ) where
   pub one-holder : (i j s : ℕ) → takes E K i s ≡ true → takes E K j s ≡ true → i ≡ j
   one-holder i j s h k =
       ⊎-elim (λ u. never k (later-leaves i j s u h)) (λ u. ⊎-elim (λ q. sym q) (λ v. never h (later-leaves j i s v k)) (eq-or-lt-of-le u)) (side i j)
+
+  -- the slots that the rows above row i leave free are those that row i leaves free too and those that it holds
+  pub free-parted : (i a b : ℕ) → between (held E K i) a b ≡ between (held E K (suc i)) a b + within (takes E K i) a b
+  free-parted i a b = within-parted (λ t. not (held E K i t)) (λ t. not (held E K (suc i) t)) (takes E K i) a b (λ t l u. each t)
+    where
+      each : (t : ℕ) → gap (held E K i t) ≡ gap (held E K (suc i) t) + unit (takes E K i t)
+      each t =
+          ⊎-elim (λ k. omega (arith, ap unit k, ap gap (takes-free E K i t k), ap gap (held-taken E K i t k)))
+          (λ k. ⊎-elim (λ h. omega (arith, ap unit k, ap gap h, ap gap (held-up E K i t h))) (λ h. omega (arith, ap unit k, ap gap h, ap gap (held-neither E K i t h k))) (split (held E K i t)))
+          (split (takes E K i t))
 
   -- ---- the holder by its number
   pub holder-is : (n i s : ℕ) → i < n → takes E K i s ≡ true → holder E K n s ≡ suc i

@@ -70,6 +70,10 @@ module _ (r : Row) (good : Good r) where
   unfolding opens closes windowEnd
   end-opens j l = let e : j - 1 + 1 ≡ j = omega arith in rw (mul-div-cancel (j - 1) (good .period), e)
 
+  pub closes-next : (j : ℕ) → closes r j ≤ opens r (suc j)
+  unfolding opens closes
+  closes-next j = let e : suc j - 1 ≡ j = omega arith in rw e (omega arith)
+
   pub opens-first : (j : ℕ) → 1 ≤ j → opens r j < closes r j
   opens-first j l = rw (end-opens j l) at (in-window (opens r j))
 

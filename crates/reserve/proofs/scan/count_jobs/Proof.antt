@@ -4,12 +4,12 @@ use Prim.Native.Nat.{_-_}
 use native.Mathlib.Omega.{arith}
 use borrow.Author.Needs.{needs}
 use Rattle.table.proofs.Lists.{long}
-use Rattle.reserve.proofs.Scanning.{Counted, jobs-few, count-start, count-step, count-end}
+use Rattle.reserve.proofs.Scanning.{CountedTo, jobs-few, count-start, count-step, count-end}
 use Rattle.reserve.proofs.scan.count_jobs.Statement.{statement}
 use Rattle.reserve.proofs.scan.count_jobs.Tie as tie
 
 abbrev Inv-loop : tie.InvT-loop
-Inv-loop t cycle n jobs₀ i₀ jobs i = Counted t i jobs
+Inv-loop t cycle n jobs₀ i₀ jobs i = CountedTo t i jobs
 
 abbrev μ-loop : tie.MeasureT-loop
 μ-loop t cycle n jobs₀ i₀ jobs i = n - i

@@ -1,0 +1,237 @@
+-- When each refusal of a table given as rows is given: the column 'Given exactly when' of document 01's 'Numbers of refusal', for 1 to 7 and for an acceptance, in 01's order.
+-- What specs/Exactly says of a refusal brings it about (`given-if`), and of every table it says something of some refusal (`some-gives`): so each is given exactly when.
+-- Assumes nothing.
+use mathlib.Core.Path.{_≡_, refl, sym, ap, _∙_, subst}
+use mathlib.Core.Logic.{_⊎_, inl, inr, _↔_, ⊎-elim}
+use mathlib.Core.Bool.{true, false, _||_}
+use mathlib.Core.List.{List}
+use Prim.Native.Nat.{ℕ, zero, suc, _≤_, _<_}
+use native.Mathlib.Numerals.{add-one}
+use native.Mathlib.Nat.{eq-zero-or-pos}
+use native.Mathlib.Omega.{arith}
+use borrow.Author.Count.{below-none}
+use borrow.Author.Tests.{eqb-true, eq-eqb, ne-eqb, ltb-true, lt-ltb, le-ltb}
+use lib.Dec.{ltb, eqb}
+use lib.ListN.{length, drop, drop-of-length-le}
+use lib.Seq.{drop-cons}
+use Rattle.refusal.specs.declared.Refusal.{Refusal}
+use Rattle.refusal.specs.declared.Refusal.the-variants.{None, Empty, Many, Zero, Long, Order, Cycle, Tight}
+use Rattle.refusal.specs.Order.{accepted, given, orElse}
+use Rattle.refusal.proofs.Order.{passes}
+use Rattle.table.specs.declared.Row.{Row}
+use Rattle.table.specs.declared.Table.{Table}
+use Rattle.table.specs.Rows.{used, blank, rowAt, cycleOf}
+use Rattle.table.specs.Check.{isZero, isLong, faultOf, faultsOf, rowsRefusal}
+use Rattle.rule.proofs.Tests.{split, side, never, false-if, or-cases, or-left, or-right}
+use Rattle.reserve.specs.Check.{tightOf, tableRefusal}
+use Rattle.reserve.specs.Exactly.{ZeroRow, LongRow, EarlyRow, SoundRow, Reached, AllSound, Counted, RowGives, TableGives}
+use Rattle.reserve.proofs.Verdict.{after-rows}
+use Rattle.reserve.proofs.Demand2.{tight-exactly, accepted-exactly}
+
+-- ---- the tests of a row say what is refused in it
+module _ (r : Row) where
+  zero-test : ZeroRow r → isZero r ≡ true
+  zero-test (inl e) = or-left _ _ (or-left _ _ (eq-eqb (r .period) 0 e))
+  zero-test (inr (inl e)) = or-left _ _ (or-right (eqb (r .period) 0) _ (eq-eqb (r .primary) 0 e))
+  zero-test (inr (inr e)) = or-right (eqb (r .period) 0 || eqb (r .primary) 0) _ (eq-eqb (r .alternate) 0 e)
+
+  test-zero : isZero r ≡ true → ZeroRow r
+  test-zero h =
+      ⊎-elim
+      (λ g. ⊎-elim (λ e. inl (eqb-true (r .period) 0 e)) (λ e. inr (inl (eqb-true (r .primary) 0 e))) (or-cases _ _ g))
+      (λ e. inr (inr (eqb-true (r .alternate) 0 e)))
+      (or-cases _ _ h)
+
+  no-zero : (ZeroRow r → ⊥) → isZero r ≡ false
+  no-zero z = false-if (isZero r) (λ h. z (test-zero h))
+
+  zero-or : ZeroRow r ⊎ (ZeroRow r → ⊥)
+  zero-or = ⊎-elim (λ h. inl (test-zero h)) (λ h. inr (λ z. never (zero-test z) h)) (split (isZero r))
+
+  long-test : LongRow r → isLong r ≡ true
+  long-test (inl l) = or-left _ _ (lt-ltb (r .period) (r .primary) l)
+  long-test (inr l) = or-right (ltb (r .period) (r .primary)) _ (lt-ltb (r .period) (r .alternate) l)
+
+  test-long : isLong r ≡ true → LongRow r
+  test-long h = ⊎-elim (λ l. inl (ltb-true (r .period) (r .primary) l)) (λ l. inr (ltb-true (r .period) (r .alternate) l)) (or-cases _ _ h)
+
+  no-long : (LongRow r → ⊥) → isLong r ≡ false
+  no-long l = false-if (isLong r) (λ h. l (test-long h))
+
+  long-or : LongRow r ⊎ (LongRow r → ⊥)
+  long-or = ⊎-elim (λ h. inl (test-long h)) (λ h. inr (λ l. never (long-test l) h)) (split (isLong r))
+
+-- the period of the row before row i, and 0 before the first, where no row stands
+abbrev before : List Row → ℕ → ℕ
+before rs zero = 0
+before rs (suc i) = rowAt rs i .period
+
+early-less : (rs : List Row) (i : ℕ) → EarlyRow rs i → rowAt rs i .period < before rs i
+unfolding EarlyRow
+early-less rs (suc i) e = e
+
+less-early : (rs : List Row) (i : ℕ) → rowAt rs i .period < before rs i → EarlyRow rs i
+unfolding EarlyRow
+less-early rs zero l = absurd (omega arith)
+less-early rs (suc i) l = l
+
+module _ (rs : List Row) where
+  early-or : (i : ℕ) → EarlyRow rs i ⊎ (EarlyRow rs i → ⊥)
+  early-or i = ⊎-elim (λ l. inl (less-early rs i l)) (λ l. inr (λ e. omega (arith, early-less rs i e))) (side (rowAt rs i .period) (before rs i))
+
+  -- ---- the fault of row i: 'in each row 3, 4, 5'
+  abbrev fault : ℕ → Refusal
+  fault i = faultOf (suc i) (before rs i) (rowAt rs i)
+
+  module _ (i : ℕ) where
+    fault-zero : ZeroRow (rowAt rs i) → fault i ≡ Zero (suc i)
+    unfolding faultOf orElse
+    fault-zero z = rw (zero-test (rowAt rs i) z)
+
+    module _ (z : ZeroRow (rowAt rs i) → ⊥) where
+      fault-long : LongRow (rowAt rs i) → fault i ≡ Long (suc i)
+      unfolding faultOf orElse
+      fault-long l = rw (no-zero (rowAt rs i) z, long-test (rowAt rs i) l)
+
+      module _ (l : LongRow (rowAt rs i) → ⊥) where
+        fault-order : EarlyRow rs i → fault i ≡ Order (suc i)
+        unfolding faultOf orElse
+        fault-order e = rw (no-zero (rowAt rs i) z, no-long (rowAt rs i) l, lt-ltb (rowAt rs i .period) (before rs i) (early-less rs i e))
+
+        fault-none : (EarlyRow rs i → ⊥) → fault i ≡ None
+        unfolding faultOf orElse
+        fault-none e =
+            ⊎-elim (λ (o : rowAt rs i .period < before rs i). absurd (e (less-early rs i o)))
+            (λ (o : before rs i ≤ rowAt rs i .period). rw (no-zero (rowAt rs i) z, no-long (rowAt rs i) l, le-ltb (rowAt rs i .period) (before rs i) o))
+            (side (rowAt rs i .period) (before rs i))
+
+  -- ---- 'then rows from the first': the faults of the rows from row i on
+  abbrev onward : ℕ → Refusal
+  onward i = faultsOf (suc i) (before rs i) (drop i rs)
+
+  onward-step : (i : ℕ) → i < length rs → onward i ≡ orElse (fault i) (onward (suc i))
+  unfolding faultsOf
+  onward-step i l =
+      ap (faultsOf (suc i) (before rs i)) (drop-cons rs i blank l)
+      ∙ ap (λ (k : ℕ). orElse (fault i) (faultsOf k (rowAt rs i .period) (drop (suc i) rs))) (add-one (suc i))
+
+  -- rows in which nothing is refused are passed over
+  onward-from : (i : ℕ) → i ≤ length rs → ((k : ℕ) → k < i → SoundRow rs k) → faultsOf 1 0 rs ≡ onward i
+  onward-from zero l s = refl
+  onward-from (suc i) l s =
+      let here : SoundRow rs i = s i (omega arith) in
+      onward-from i (omega arith) (λ k u. s k (omega arith))
+      ∙ onward-step i l
+      ∙ sym (passes (fault i) (onward (suc i)) (fault-none i (here .not-zero) (here .not-long) (here .not-early)))
+
+  faults-none : AllSound rs → faultsOf 1 0 rs ≡ None
+  unfolding faultsOf
+  faults-none s =
+      let end : length rs ≤ length rs = omega arith in
+      onward-from (length rs) end s ∙ ap (faultsOf (suc (length rs)) (before rs (length rs))) (drop-of-length-le rs end)
+
+  faults-row : (i : ℕ) (f : Refusal) → Reached rs i → fault i ≡ f → accepted f ≡ false → faultsOf 1 0 rs ≡ f
+  unfolding orElse
+  faults-row i f r e a = onward-from i (omega (arith, r .row)) (r .before) ∙ onward-step i (r .row) ∙ rw (e, a)
+
+-- ---- what is said of each refusal brings it about
+module _ (t : Table) where
+  abbrev rs : List Row
+  rs = used t
+
+  given-empty : t .n ≡ 0 → tableRefusal t ≡ Empty
+  unfolding tableRefusal rowsRefusal orElse
+  given-empty e = simp (eq-eqb _ _ e)
+
+  given-many : 16 < t .n → tableRefusal t ≡ Many
+  unfolding tableRefusal rowsRefusal orElse
+  given-many l = simp (ne-eqb (t .n) 0 (λ z. omega arith), lt-ltb _ _ l)
+
+  -- neither 1 nor 2
+  counted : Counted t → rowsRefusal t ≡ orElse (faultsOf 1 0 rs) (given (ltb 4096 (cycleOf rs)) Cycle)
+  unfolding rowsRefusal orElse
+  counted c = simp (ne-eqb (t .n) 0 (λ z. omega arith), le-ltb 16 (t .n) (c .1))
+
+  given-row : {k : ℕ} {What : ℕ → Type 0} (f : ℕ → Refusal) → accepted (f k) ≡ false → ((i : ℕ) → What i → fault rs i ≡ f (suc i)) → RowGives t k What → tableRefusal t ≡ f k
+  unfolding tableRefusal orElse
+  given-row {k} f a h g =
+      rw (counted (g .counted), faults-row rs (g .i) (f k) (g .reached) (h (g .i) (g .what) ∙ ap f (sym (g .named))) a, a, a)
+
+  module _ (c : Counted t) (s : AllSound rs) where
+    given-cycle : 4096 < cycleOf rs → tableRefusal t ≡ Cycle
+    unfolding tableRefusal orElse
+    given-cycle l = rw (counted c, faults-none rs s, lt-ltb 4096 (cycleOf rs) l)
+
+    -- none of 1 to 6
+    rows-none : cycleOf rs ≤ 4096 → rowsRefusal t ≡ None
+    unfolding orElse
+    rows-none l = rw (counted c, faults-none rs s, le-ltb 4096 (cycleOf rs) l)
+
+  -- nothing gives the variants that have no clause here
+  given-if : (f : Refusal) → TableGives t f → tableRefusal t ≡ f
+  unfolding TableGives
+  given-if None g = accepted-exactly t (rows-none (g .0) (g .1) (g .2)) .1 (g .3)
+  given-if Empty g = given-empty g
+  given-if Many g = given-many g
+  given-if (Zero k) g = given-row Zero refl (fault-zero rs) g
+  given-if (Long k) g = given-row Long refl (λ i w. fault-long rs i (w .0) (w .1)) g
+  given-if (Order k) g = given-row Order refl (λ i w. fault-order rs i (w .0) (w .1) (w .2)) g
+  given-if Cycle g = given-cycle (g .0) (g .1) (g .2)
+  given-if (Tight k) g = tight-exactly t (rows-none (g .0) (g .1) (g .2)) (g .3 .0) .1 (g .3 .2) ∙ ap Tight (sym (g .3 .1))
+
+  -- ---- of every table one of these things can be said
+  abbrev SomeGives : Type 0
+  SomeGives = (f : Refusal) × TableGives t f
+
+  module _ (c : Counted t) where
+    row-gives : (i : ℕ) → Reached rs i → SoundRow rs i ⊎ SomeGives
+    unfolding TableGives
+    row-gives i r =
+        ⊎-elim (λ z. inr (Zero (suc i), record { counted = c; i = i; named = refl; reached = r; what = z }))
+        (λ z.
+        ⊎-elim (λ l. inr (Long (suc i), record { counted = c; i = i; named = refl; reached = r; what = (z, l) }))
+        (λ l.
+        ⊎-elim (λ e. inr (Order (suc i), record { counted = c; i = i; named = refl; reached = r; what = (z, l, e) }))
+        (λ e. inl (record { not-zero = z; not-long = l; not-early = e })) (early-or rs i)) (long-or (rowAt rs i)))
+        (zero-or (rowAt rs i))
+
+    rows-give : (m : ℕ) → m ≤ length rs → ((k : ℕ) → k < m → SoundRow rs k) ⊎ SomeGives
+    rows-give zero l = inl (below-none (SoundRow rs))
+    rows-give (suc m) l = ⊎-elim (λ s. ⊎-elim (λ here. inl (more s here)) inr (row-gives m (record { row = l; before = s }))) inr (rows-give m (omega arith))
+      where
+        more : ((k : ℕ) → k < m → SoundRow rs k) → SoundRow rs m → (k : ℕ) → k < suc m → SoundRow rs k
+        more s here k u = ⊎-elim (λ (v : k < m). s k v) (λ (v : m ≤ k). let q : k ≡ m = omega arith in rw q here) (side k m)
+
+    module _ (s : AllSound rs) where
+      rule-gives : cycleOf rs ≤ 4096 → SomeGives
+      unfolding TableGives
+      rule-gives l = go (tightOf rs) (after-rows t e)
+        where
+          e : rowsRefusal t ≡ None
+          e = rows-none c s l
+
+          go : (k : ℕ) → given (ltb 0 k) (Tight k) ≡ tableRefusal t → SomeGives
+          go zero d = (None, (c, s, l, accepted-exactly t e .0 (sym d)))
+          go (suc i) d = (Tight (suc i), (c, s, l, (i, refl, tight-exactly t e i .0 (sym (rw (lt-ltb 0 (suc i) (omega arith)) at d)))))
+
+      sound-gives : SomeGives
+      unfolding TableGives
+      sound-gives = ⊎-elim (λ (l : 4096 < cycleOf rs). (Cycle, (c, s, l))) rule-gives (side 4096 (cycleOf rs))
+
+    counted-gives : SomeGives
+    counted-gives = ⊎-elim sound-gives (λ g. g) (rows-give (length rs) (omega arith))
+
+  some-gives : SomeGives
+  unfolding TableGives
+  some-gives =
+      ⊎-elim (λ (e : t .n ≡ 0). (Empty, e))
+      (λ (p : 0 < t .n). ⊎-elim (λ (l : 16 < t .n). (Many, l)) (λ (l : t .n ≤ 16). counted-gives (p, l)) (side 16 (t .n)))
+      (eq-zero-or-pos (t .n))
+
+-- 'Given exactly when'
+pub table-gives : (t : Table) (f : Refusal) → (tableRefusal t ≡ f) ↔ TableGives t f
+table-gives t f = (λ e. let g : SomeGives t = some-gives t in subst (TableGives t) (sym (given-if t (g .0) (g .1)) ∙ e) (g .1), given-if t f)
+
+-- and one is given at most
+pub gives-one : (t : Table) (f g : Refusal) → TableGives t f → TableGives t g → f ≡ g
+gives-one t f g p q = sym (table-gives t f .1 p) ∙ table-gives t g .1 q

@@ -1,0 +1,9 @@
+pub mod FileLayout
+pub mod HeadCases
+pub mod ReadCases
+pub mod WriteCases
+pub mod RoundTrips
+pub mod Unique
+pub mod Exactly
+pub mod Demand2
+pub mod Enough

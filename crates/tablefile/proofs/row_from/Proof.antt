@@ -1,0 +1,28 @@
+-- `tablefile::row_from` meets its contract.
+-- Assumes nothing.
+use Rattle.tablefile.proofs.ReadCases.{row-by}
+use borrow.Author.Needs.{needs}
+use Rattle.tablefile.proofs.row_from.Statement.{statement}
+use Rattle.tablefile.proofs.row_from.Tie as tie
+
+word-requires : tie.Need-word-requires
+word-requires c κs = search needs
+
+add-word : tie.Need-add-word
+add-word c = search needs
+
+word-requires-2 : tie.Need-word-requires-2
+word-requires-2 c κs = search needs
+
+add-word-2 : tie.Need-add-word-2
+add-word-2 c = search needs
+
+word-requires-3 : tie.Need-word-requires-3
+word-requires-3 c κs = search needs
+
+returns : tie.Need-returns
+returns c = search (row-by)
+
+pub row-from-spec : {M : Type 1} → statement M
+row-from-spec =
+    tie.close (tie.spec word-requires add-word word-requires-2 add-word-2 word-requires-3 returns)

@@ -1,0 +1,52 @@
+-- When each refusal of a table file is given, in the words of document 01's 'Order for a file', and that no earlier one applies.
+-- Assumes nothing: these are definitions.
+use mathlib.Core.Path.{_≡_}
+use mathlib.Core.Logic.{_⊎_, _≢_}
+use mathlib.Core.List.{List}
+use Prim.Native.Nat.{ℕ, _+_, _≤_, _<_}
+use lib.ListN.{length}
+use Rattle.refusal.specs.declared.Refusal.{Refusal}
+use Rattle.refusal.specs.declared.Refusal.the-variants.{None, Empty, Many, Zero, Long, Order, Cycle, Tight, Room, Record, Report, Stray, Size, Version}
+use Rattle.reserve.specs.Exactly.{Counted, TableGives}
+use Rattle.tablefile.specs.Layout.{follow, byteAt, wordAt, tableFrom}
+
+-- 12, the first time: 'under 4 bytes, or the length field differs from the bytes that follow'
+abbrev pub Cut : List ℕ → Type 0
+Cut s = (length s < 4) ⊎ (wordAt s 0 + 2 ≢ length s)
+
+-- it does not apply
+abbrev pub Whole : List ℕ → Type 0
+Whole s = (4 ≤ length s) × (wordAt s 0 + 2 ≡ length s)
+
+-- nor does 13
+abbrev pub Versioned : List ℕ → Type 0
+Versioned s = Whole s × (byteAt s 2 ≡ 1)
+
+-- the length field says 2+6n
+abbrev pub RightLength : List ℕ → Type 0
+RightLength s = wordAt s 0 ≡ follow (byteAt s 3)
+
+-- none of 12, 13 and 12 applies
+abbrev pub Framed : List ℕ → Type 0
+Framed s = Versioned s × RightLength s
+
+-- the refusal is given exactly when; 12, the second time: 'length not 2+6n'
+unfoldable pub FileGives : List ℕ → Refusal → Type 0
+FileGives s Size = Cut s ⊎ (Versioned s × Counted (tableFrom s) × (RightLength s → ⊥))
+-- 'the version byte isn't 1'
+FileGives s Version = Whole s × (byteAt s 2 ≢ 1)
+-- 1 and 2 come before the second 12
+FileGives s Empty = Versioned s × TableGives (tableFrom s) Empty
+FileGives s Many = Versioned s × TableGives (tableFrom s) Many
+-- 'then rows from the first, in each row 3, 4, 5, then 6, then 7'
+FileGives s (Zero k) = Framed s × TableGives (tableFrom s) (Zero k)
+FileGives s (Long k) = Framed s × TableGives (tableFrom s) (Long k)
+FileGives s (Order k) = Framed s × TableGives (tableFrom s) (Order k)
+FileGives s Cycle = Framed s × TableGives (tableFrom s) Cycle
+FileGives s (Tight k) = Framed s × TableGives (tableFrom s) (Tight k)
+FileGives s None = Framed s × TableGives (tableFrom s) None
+-- the others are not about a file
+FileGives s Room = ⊥
+FileGives s Record = ⊥
+FileGives s Report = ⊥
+FileGives s Stray = ⊥

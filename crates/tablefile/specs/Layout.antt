@@ -1,0 +1,55 @@
+-- The table file, byte by byte: what stands in it, and what is read from it.
+-- Assumes nothing: these are definitions.
+use Prim.Native.Nat.{ℕ, zero, suc, _+_, _-_, _*_, _/_, _%_}
+use mathlib.Core.List.{List, [], _∷_, _++_}
+use lib.ListN.{getD, replicate}
+use Rattle.table.specs.declared.Row.{Row}
+use Rattle.table.specs.declared.Table.{Table}
+use Rattle.table.specs.Rows.{used, blank}
+
+-- 'The length must be 2+6n': how many bytes follow the first two in a file of n rows
+abbrev pub follow : ℕ → ℕ
+follow n = 2 + 6 * n
+
+-- ---- what stands in a file
+-- 'Big-endian': the high byte first
+unfoldable pub wordBytes : ℕ → List ℕ
+wordBytes w = w / 256 ∷ w % 256 ∷ []
+
+-- 'period, p, a, two bytes each'
+unfoldable pub rowBytes : Row → List ℕ
+rowBytes r = wordBytes (r .period) ++ wordBytes (r .primary) ++ wordBytes (r .alternate)
+
+unfoldable pub rowsBytes : List Row → List ℕ
+rowsBytes [] = []
+rowsBytes (r ∷ rs) = rowBytes r ++ rowsBytes rs
+
+-- 'Two bytes: the number of bytes that follow them. One version byte, 1. One byte: the number of rows n. Then n rows'
+unfoldable pub fileBytes : Table → List ℕ
+fileBytes t = wordBytes (follow (t .n)) ++ (1 ∷ t .n ∷ rowsBytes (used t))
+
+-- ---- what is read from bytes: a file's length field stands at place 0, its version at 2, n at 3, its rows from 4 on
+-- the byte at a place, 0 past the end
+abbrev pub byteAt : List ℕ → ℕ → ℕ
+byteAt s at = getD s at 0
+
+-- the word at a place, 'Big-endian'
+unfoldable pub wordAt : List ℕ → ℕ → ℕ
+wordAt s at = byteAt s at * 256 + byteAt s (at + 1)
+
+-- the row at a place, 'period, p, a, two bytes each'
+unfoldable pub rowFrom : List ℕ → ℕ → Row
+rowFrom s at = record { period = wordAt s at; primary = wordAt s (at + 2); alternate = wordAt s (at + 4) }
+
+-- n rows from a place on
+unfoldable pub rowsFrom : List ℕ → ℕ → ℕ → List Row
+rowsFrom s at zero = []
+rowsFrom s at (suc n) = rowFrom s at ∷ rowsFrom s (at + 6) n
+
+-- 'Places past the n rows read are all zero'
+abbrev pub padded : ℕ → List Row → List Row
+padded n rs = rs ++ replicate (16 - n) blank
+
+-- the table that a file holds
+unfoldable pub tableFrom : List ℕ → Table
+tableFrom s = record { n = byteAt s 3; rows = padded (byteAt s 3) (rowsFrom s 4 (byteAt s 3)) }

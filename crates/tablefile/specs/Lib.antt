@@ -1,0 +1,4 @@
+pub mod Layout
+pub mod Answers
+pub mod RoundTrips
+pub mod Exactly
