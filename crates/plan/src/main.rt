@@ -1,16 +1,23 @@
 // Reads a table file from standard input and prints the cycle, the number of jobs and each job's first slot, or the one line of a refusal.
 ghost use mathlib.Core.Path.{_≡_};
-ghost use Prim.Native.Nat.{_+_, _≤_};
-ghost use lib.ListN.{length};
+ghost use lib.ListN.{length, getD};
 ghost use Rattle.refusal.specs.declared.Refusal.the-variants.{None};
 ghost use Rattle.table.specs.Rows.{used};
 ghost use Rattle.reserve.specs.Check.{tableRefusal};
 ghost use Rattle.reserve.specs.Lists.{firstSlots};
 ghost use Rattle.reserve.specs.Turns.{Ready};
+ghost use Rattle.plan.specs.Lines.{planLines, noLine, Begins};
 use libc::STDIN_FILENO;
 use libc::STDOUT_FILENO;
 use refusal::Refusal;
 use table::Table;
+
+// A row, one of its jobs and the job's first slot.
+struct Line {
+    row: u8,
+    job: usize,
+    first: u16,
+}
 
 // 'refused 7 row 2'
 fn print_refusal(f: Refusal) {
@@ -30,40 +37,53 @@ fn print_head(cycle: u16, jobs: usize) {
     io::write_all(STDOUT_FILENO, b"\n");
 }
 
-// '1 2 9': a row, its job and the job's first slot
-fn print_job(row: u8, job: usize, first: u16) {
-    io::print_decimal(STDOUT_FILENO, row as u64);
+// '1 2 9'
+fn print_line(line: Line) {
+    io::print_decimal(STDOUT_FILENO, line.row as u64);
     io::write_all(STDOUT_FILENO, b" ");
-    io::print_decimal(STDOUT_FILENO, job as u64);
+    io::print_decimal(STDOUT_FILENO, line.job as u64);
     io::write_all(STDOUT_FILENO, b" ");
-    io::print_decimal(STDOUT_FILENO, first as u64);
+    io::print_decimal(STDOUT_FILENO, line.first as u64);
     io::write_all(STDOUT_FILENO, b"\n");
 }
 
-// The jobs of one row, whose first slots stand from a place on.
-fn print_row(row: u8, jobs: usize, firsts: &[u16], at: usize)
-    requires { ⌜ at + jobs ≤ length (now firsts) ⌝ }
-{
-    let mut j: usize = 0;
-    while j < jobs {
-        print_job(row, j + 1, firsts[at + j]);
-        j += 1;
-    }
-}
-
-// The jobs of every row, rows in order, as their first slots stand.
-fn print_rows(t: Table, cycle: u16, firsts: &[u16])
-    requires { ⌜ Ready t cycle × (length (firstSlots (used t)) ≤ length (now firsts)) ⌝ }
+// Line k, counted from 0, of a table whose first slots stand in a list.
+fn line_at(t: Table, cycle: u16, firsts: &[u16], k: usize) -> Line
+    requires { ⌜ Ready t cycle × Begins (firstSlots (used t)) (now firsts) ⌝ }
+    ensures { λ r. ⌜ r ≡ getD (planLines (used t)) k noLine ⌝ }
 {
     let n = t.n;
-    let mut at: usize = 0;
+    let mut left = k;
     let mut i: u8 = 0;
     while i < n {
         let r = t.rows[i as usize];
         let jobs = (cycle / r.period) as usize;
-        print_row(i + 1, jobs, firsts, at);
-        at += jobs;
+        if left < jobs {
+            return Line {
+                row: i + 1,
+                job: left + 1,
+                first: firsts[k],
+            };
+        }
+        left -= jobs;
         i += 1;
+    }
+    Line {
+        row: 0,
+        job: 0,
+        first: 0,
+    }
+}
+
+// Every line, in order.
+fn print_lines(t: Table, cycle: u16, firsts: &[u16], jobs: usize)
+    requires { ⌜ Ready t cycle × Begins (firstSlots (used t)) (now firsts) × (jobs ≡ length (planLines (used t))) ⌝ }
+{
+    let mut k: usize = 0;
+    while k < jobs {
+        let line = line_at(t, cycle, firsts, k);
+        print_line(line);
+        k += 1;
     }
 }
 
@@ -75,8 +95,9 @@ fn print_plan(t: Table)
     let cycle = checked.cycle;
     let mut firsts = [0u16; 4096];
     let handed = reserve::first_slots(t, &mut firsts);
-    print_head(cycle, handed.used);
-    print_rows(t, cycle, &firsts);
+    let jobs = handed.used;
+    print_head(cycle, jobs);
+    print_lines(t, cycle, &firsts, jobs);
 }
 
 // Every input gets its answer: no length field counts past 65,537 bytes, so one byte more is enough to take in (`tablefile` proofs/Enough).

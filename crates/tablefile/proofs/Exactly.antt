@@ -18,7 +18,7 @@ use Rattle.rule.proofs.Tests.{split, side}
 use Rattle.reserve.specs.Check.{tableRefusal}
 use Rattle.reserve.specs.Exactly.{Counted, TableGives}
 use Rattle.reserve.proofs.Exactly.{table-gives}
-use Rattle.tablefile.specs.Layout.{follow, byteAt, wordAt, tableFrom}
+use Rattle.tablefile.specs.Layout.{follow, lengthField, versionByte, countByte, tableFrom}
 use Rattle.tablefile.specs.Answers.{headRefusal, fileRefusal}
 use Rattle.tablefile.specs.Exactly.{Cut, Whole, Versioned, RightLength, Framed, FileGives}
 use Rattle.tablefile.proofs.HeadCases.{head-under, head-differs, head-version, head-empty, head-many, head-size, head-none}
@@ -29,7 +29,7 @@ same m n = ⊎-elim (λ e. inl (eqb-true m n e)) (λ e. inr (eqb-false m n e)) (
 -- ---- what is said of each refusal brings it about
 module _ (s : List ℕ) where
   abbrev n : ℕ
-  n = byteAt s 3
+  n = countByte s
 
   -- a refusal of the head is the file's
   by-head : (f : Refusal) → accepted f ≡ false → f ≡ headRefusal s → fileRefusal s ≡ f
@@ -39,28 +39,28 @@ module _ (s : List ℕ) where
   given-cut : Cut s → fileRefusal s ≡ Size
   given-cut (inl l) = by-head Size refl (head-under s l)
   given-cut (inr d) =
-      ⊎-elim (λ (l : length s < 4). by-head Size refl (head-under s l)) (λ (l : 4 ≤ length s). by-head Size refl (head-differs s l (wordAt s 0) refl d)) (side (length s) 4)
+      ⊎-elim (λ (l : length s < 4). by-head Size refl (head-under s l)) (λ (l : 4 ≤ length s). by-head Size refl (head-differs s l (lengthField s) refl d)) (side (length s) 4)
 
-  given-version : Whole s → byteAt s 2 ≢ 1 → fileRefusal s ≡ Version
-  given-version w d = by-head Version refl (head-version s (w .0) (wordAt s 0) refl (w .1) (byteAt s 2) refl d)
+  given-version : Whole s → versionByte s ≢ 1 → fileRefusal s ≡ Version
+  given-version w d = by-head Version refl (head-version s (w .0) (lengthField s) refl (w .1) (versionByte s) refl d)
 
   module _ (v : Versioned s) where
     given-empty : n ≡ 0 → fileRefusal s ≡ Empty
-    given-empty e = by-head Empty refl (head-empty s (v .0 .0) (wordAt s 0) refl (v .0 .1) (byteAt s 2) refl (v .1) n refl e)
+    given-empty e = by-head Empty refl (head-empty s (v .0 .0) (lengthField s) refl (v .0 .1) (versionByte s) refl (v .1) n refl e)
 
     given-many : 16 < n → fileRefusal s ≡ Many
-    given-many l = by-head Many refl (head-many s (v .0 .0) (wordAt s 0) refl (v .0 .1) (byteAt s 2) refl (v .1) n refl (λ z. omega arith) l)
+    given-many l = by-head Many refl (head-many s (v .0 .0) (lengthField s) refl (v .0 .1) (versionByte s) refl (v .1) n refl (λ z. omega arith) l)
 
     module _ (c : Counted (tableFrom s)) where
       given-size : (RightLength s → ⊥) → fileRefusal s ≡ Size
       unfolding tableFrom
-      given-size d = by-head Size refl (head-size s (v .0 .0) (wordAt s 0) refl (v .0 .1) (byteAt s 2) refl (v .1) n refl (ne-of-gt (c .0)) (c .1) d)
+      given-size d = by-head Size refl (head-size s (v .0 .0) (lengthField s) refl (v .0 .1) (versionByte s) refl (v .1) n refl (ne-of-gt (c .0)) (c .1) d)
 
       -- after the head, what the table gives
       given-rows : RightLength s → (f : Refusal) → TableGives (tableFrom s) f → fileRefusal s ≡ f
       unfolding tableFrom fileRefusal
       given-rows l f g =
-          let h = head-none s (v .0 .0) (wordAt s 0) refl (v .0 .1) (byteAt s 2) refl (v .1) n refl (ne-of-gt (c .0)) (c .1) l in
+          let h = head-none s (v .0 .0) (lengthField s) refl (v .0 .1) (versionByte s) refl (v .1) n refl (ne-of-gt (c .0)) (c .1) l in
           sym (passes (headRefusal s) (tableRefusal (tableFrom s)) (sym h)) ∙ table-gives (tableFrom s) f .1 g
 
   -- nothing gives the variants that have no clause here
@@ -103,7 +103,7 @@ module _ (s : List ℕ) where
       ⊎-elim (λ (e : RightLength s).
       let f = tableRefusal (tableFrom s) in
       (f, framed-gives (v, e) f (table-gives (tableFrom s) f .0 refl)))
-      (λ d. (Size, inr (v, (p, l), d))) (same (wordAt s 0) (follow n))) (side 16 n))
+      (λ d. (Size, inr (v, (p, l), d))) (same (lengthField s) (follow n))) (side 16 n))
       (eq-zero-or-pos n)
 
   some-gives : SomeGives
@@ -111,9 +111,9 @@ module _ (s : List ℕ) where
   some-gives =
       ⊎-elim (λ (l : length s < 4). (Size, inl (inl l)))
       (λ (l : 4 ≤ length s).
-      ⊎-elim (λ (e : wordAt s 0 + 2 ≡ length s).
-      ⊎-elim (λ (v : byteAt s 2 ≡ 1). versioned-gives ((l, e), v)) (λ d. (Version, ((l, e), d))) (same (byteAt s 2) 1))
-      (λ d. (Size, inl (inr d))) (same (wordAt s 0 + 2) (length s)))
+      ⊎-elim (λ (e : lengthField s + 2 ≡ length s).
+      ⊎-elim (λ (v : versionByte s ≡ 1). versioned-gives ((l, e), v)) (λ d. (Version, ((l, e), d))) (same (versionByte s) 1))
+      (λ d. (Size, inl (inr d))) (same (lengthField s + 2) (length s)))
       (side (length s) 4)
 
 -- 'Order for a file': each number exactly when document 01 says and no earlier one applies

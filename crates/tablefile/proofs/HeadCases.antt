@@ -11,9 +11,9 @@ use borrow.Author.Tests.{eq-eqb, ne-eqb, lt-ltb, le-ltb, eqb-true, eqb-false, lt
 use lib.Dec.{eqb, ltb}
 use lib.ListN.{length}
 use Rattle.refusal.specs.declared.Refusal.the-variants.{None, Empty, Many, Size, Version}
-use Rattle.refusal.specs.Order.{orElse}
+use Rattle.refusal.specs.Order.{given, orElse}
 use Rattle.refusal.proofs.Order.{none-first, none-later, given-not}
-use Rattle.tablefile.specs.Layout.{follow, byteAt, wordAt}
+use Rattle.tablefile.specs.Layout.{follow, lengthField, versionByte, countByte}
 use Rattle.tablefile.specs.Answers.{headRefusal}
 
 -- ---- each way out of the code
@@ -22,78 +22,60 @@ module _ (s : List ℕ) where
   unfolding headRefusal orElse
   head-under a = simp (lt-ltb (length s) 4 a)
 
-  module _ (a : 4 ≤ length s) (w : ℕ) (is-w : w ≡ wordAt s 0) where
+  module _ (a : 4 ≤ length s) (w : ℕ) (is-w : w ≡ lengthField s) where
     pub head-differs : (w + 2 ≡ length s → ⊥) → Size ≡ headRefusal s
     unfolding headRefusal orElse
-    head-differs b = simp (le-ltb (length s) 4 a, ne-eqb (wordAt s 0 + 2) (length s) (λ q. b (omega arith)))
+    head-differs b = simp (le-ltb (length s) 4 a, ne-eqb (lengthField s + 2) (length s) (λ q. b (omega arith)))
 
-    module _ (b : w + 2 ≡ length s) (v : ℕ) (is-v : v ≡ byteAt s 2) where
-      len : wordAt s 0 + 2 ≡ length s
+    module _ (b : w + 2 ≡ length s) (v : ℕ) (is-v : v ≡ versionByte s) where
+      len : lengthField s + 2 ≡ length s
       len = omega arith
 
       pub head-version : (v ≡ 1 → ⊥) → Version ≡ headRefusal s
       unfolding headRefusal orElse
-      head-version d = simp (le-ltb (length s) 4 a, eq-eqb (wordAt s 0 + 2) (length s) len, ne-eqb (byteAt s 2) 1 (λ q. d (is-v ∙ q)))
+      head-version d = simp (le-ltb (length s) 4 a, eq-eqb (lengthField s + 2) (length s) len, ne-eqb (versionByte s) 1 (λ q. d (is-v ∙ q)))
 
-      module _ (d : v ≡ 1) (n : ℕ) (is-n : n ≡ byteAt s 3) where
-        one : byteAt s 2 ≡ 1
+      module _ (d : v ≡ 1) (n : ℕ) (is-n : n ≡ countByte s) where
+        one : versionByte s ≡ 1
         one = sym is-v ∙ d
 
         pub head-empty : n ≡ 0 → Empty ≡ headRefusal s
         unfolding headRefusal orElse
-        head-empty e = simp (le-ltb (length s) 4 a, eq-eqb (wordAt s 0 + 2) (length s) len, eq-eqb (byteAt s 2) 1 one, eq-eqb (byteAt s 3) 0 (sym is-n ∙ e))
+        head-empty e = simp (le-ltb (length s) 4 a, eq-eqb (lengthField s + 2) (length s) len, eq-eqb (versionByte s) 1 one, eq-eqb (countByte s) 0 (sym is-n ∙ e))
 
         module _ (e : n ≡ 0 → ⊥) where
-          some : byteAt s 3 ≡ 0 → ⊥
+          some : countByte s ≡ 0 → ⊥
           some q = e (is-n ∙ q)
 
-          pub head-many : 16 < n → Many ≡ headRefusal s
+          -- what is left to ask
+          left : headRefusal s ≡ orElse (given (ltb 16 (countByte s)) Many) (given (not (eqb (lengthField s) (follow (countByte s)))) Size)
           unfolding headRefusal orElse
-          head-many f =
-              simp (
-                le-ltb (length s) 4 a,
-                eq-eqb (wordAt s 0 + 2) (length s) len,
-                eq-eqb (byteAt s 2) 1 one,
-                ne-eqb (byteAt s 3) 0 some,
-                lt-ltb 16 (byteAt s 3) (omega arith),
-              )
+          left = simp (le-ltb (length s) 4 a, eq-eqb (lengthField s + 2) (length s) len, eq-eqb (versionByte s) 1 one, ne-eqb (countByte s) 0 some)
+
+          pub head-many : 16 < n → Many ≡ headRefusal s
+          unfolding orElse
+          head-many f = sym (left ∙ simp (lt-ltb 16 (countByte s) (omega arith)))
 
           module _ (f : n ≤ 16) where
-            few : byteAt s 3 ≤ 16
+            few : countByte s ≤ 16
             few = omega arith
 
             pub head-size : (w ≡ follow n → ⊥) → Size ≡ headRefusal s
-            unfolding headRefusal orElse
-            head-size g =
-                simp (
-                  le-ltb (length s) 4 a,
-                  eq-eqb (wordAt s 0 + 2) (length s) len,
-                  eq-eqb (byteAt s 2) 1 one,
-                  ne-eqb (byteAt s 3) 0 some,
-                  le-ltb 16 (byteAt s 3) few,
-                  ne-eqb (wordAt s 0) (follow (byteAt s 3)) (λ q. g (omega arith)),
-                )
+            unfolding orElse
+            head-size g = sym (left ∙ simp (le-ltb 16 (countByte s) few, ne-eqb (lengthField s) (follow (countByte s)) (λ q. g (omega arith))))
 
             pub head-none : w ≡ follow n → None ≡ headRefusal s
-            unfolding headRefusal orElse
-            head-none g =
-                simp (
-                  le-ltb (length s) 4 a,
-                  eq-eqb (wordAt s 0 + 2) (length s) len,
-                  eq-eqb (byteAt s 2) 1 one,
-                  ne-eqb (byteAt s 3) 0 some,
-                  le-ltb 16 (byteAt s 3) few,
-                  eq-eqb (wordAt s 0) (follow (byteAt s 3)) (omega arith),
-                )
+            unfolding orElse
+            head-none g = sym (left ∙ simp (le-ltb 16 (countByte s) few, eq-eqb (lengthField s) (follow (countByte s)) (omega arith)))
 
 -- ---- what an acceptance says of a file
 pub record Headed (s : List ℕ) : Type 0 where
   pub whole : 4 ≤ length s
-  pub length-field : wordAt s 0 + 2 ≡ length s
-  pub version : byteAt s 2 ≡ 1
-  pub some : 0 < byteAt s 3
-  pub few : byteAt s 3 ≤ 16
-  pub size : wordAt s 0 ≡ follow (byteAt s 3)
+  pub length-field : lengthField s + 2 ≡ length s
+  pub version : versionByte s ≡ 1
+  pub some : 0 < countByte s
+  pub few : countByte s ≤ 16
+  pub size : lengthField s ≡ follow (countByte s)
 
 not-not : (b : Bool) → not b ≡ false → b ≡ true
 not-not true e = refl
@@ -107,13 +89,13 @@ headed s e =
     let e₄ = none-later _ _ e₃ in
     let e₅ = none-later _ _ e₄ in
     let length-test = ltb (length s) 4 in
-    let field-test = not (eqb (wordAt s 0 + 2) (length s)) in
+    let field-test = not (eqb (lengthField s + 2) (length s)) in
     let first = neither _ _ .0 (given-not (length-test || field-test) Size (omega arith) (none-first _ _ e)) in
     record {
       whole = ltb-false (length s) 4 (first .0);
       length-field = eqb-true _ _ (not-not _ (first .1));
-      version = eqb-true _ _ (not-not _ (given-not (not (eqb (byteAt s 2) 1)) Version (omega arith) (none-first _ _ e₂)));
-      some = pos-of-ne-zero (eqb-false _ _ (given-not (eqb (byteAt s 3) 0) Empty (omega arith) (none-first _ _ e₃)));
-      few = ltb-false 16 (byteAt s 3) (given-not (ltb 16 (byteAt s 3)) Many (omega arith) (none-first _ _ e₄));
-      size = eqb-true _ _ (not-not _ (given-not (not (eqb (wordAt s 0) (follow (byteAt s 3)))) Size (omega arith) e₅));
+      version = eqb-true _ _ (not-not _ (given-not (not (eqb (versionByte s) 1)) Version (omega arith) (none-first _ _ e₂)));
+      some = pos-of-ne-zero (eqb-false _ _ (given-not (eqb (countByte s) 0) Empty (omega arith) (none-first _ _ e₃)));
+      few = ltb-false 16 (countByte s) (given-not (ltb 16 (countByte s)) Many (omega arith) (none-first _ _ e₄));
+      size = eqb-true _ _ (not-not _ (given-not (not (eqb (lengthField s) (follow (countByte s)))) Size (omega arith) e₅));
     }

@@ -17,7 +17,7 @@ use Rattle.table.specs.Rows.{blank}
 use Rattle.reserve.specs.Check.{tableRefusal, tableCheck}
 use Rattle.reserve.proofs.Verdict.{checked-refusal}
 use Rattle.tablefile.specs.declared.Reading.{Reading}
-use Rattle.tablefile.specs.Layout.{byteAt, wordAt, rowFrom, rowsFrom, padded, tableFrom}
+use Rattle.tablefile.specs.Layout.{byteAt, wordAt, countByte, rowFrom, rowsFrom, padded, tableFrom}
 use Rattle.tablefile.specs.Answers.{headRefusal, fileRefusal, zeroTable, handsBack, readAs}
 use Rattle.tablefile.proofs.FileLayout.{rows-more, rows-count}
 use Rattle.tablefile.proofs.HeadCases.{headed}
@@ -93,10 +93,10 @@ module _ (s : List ℕ) (f : Refusal) (e : f ≡ headRefusal s) where
       let later = tableRefusal (tableFrom s) in
       answered f z (keeps f later p ∙ ap (λ (g : Refusal). orElse g later) e) (a ∙ zeros-back f (tableFrom s) p)
 
-  pub read-few : f ≡ None → (n : ℕ) → n ≡ byteAt s 3 → n ≤ 16
+  pub read-few : f ≡ None → (n : ℕ) → n ≡ countByte s → n ≤ 16
   read-few d n a = omega (arith, headed s (sym e ∙ d) .few)
 
-  pub read-judged : f ≡ None → (n : ℕ) (rows : List Row) (r : Reading) → n ≡ byteAt s 3 → rows ≡ padded n (rowsFrom s 4 n)
+  pub read-judged : f ≡ None → (n : ℕ) (rows : List Row) (r : Reading) → n ≡ countByte s → rows ≡ padded n (rowsFrom s 4 n)
       → r .refusal ≡ tableRefusal (record { n = n; rows = rows })
       → r .table ≡ handsBack (tableRefusal (record { n = n; rows = rows })) (record { n = n; rows = rows })
       → r ≡ readAs s

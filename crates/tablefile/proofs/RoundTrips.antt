@@ -16,7 +16,7 @@ use Rattle.table.specs.Rows.{used, blank}
 use Rattle.table.proofs.Check.{Accepted, accepted-rows}
 use Rattle.reserve.specs.Check.{tableRefusal}
 use Rattle.reserve.proofs.Verdict.{refusal-past}
-use Rattle.tablefile.specs.Layout.{follow, wordBytes, rowBytes, rowsBytes, fileBytes, byteAt, wordAt, rowFrom, rowsFrom, padded, tableFrom}
+use Rattle.tablefile.specs.Layout.{follow, wordBytes, rowBytes, rowsBytes, fileBytes, countByte, wordAt, rowFrom, rowsFrom, padded, tableFrom}
 use Rattle.tablefile.specs.Answers.{headRefusal, fileRefusal, handsBack, readAs}
 use Rattle.tablefile.specs.RoundTrips.{Places, Bytes, zeroed}
 use Rattle.tablefile.proofs.FileLayout.{rows-count, file-size, rows-shift}
@@ -149,7 +149,7 @@ module _ (s : List ℕ) (a : fileRefusal s ≡ None) where
   pub read-places : Places (readAs s .table)
   unfolding readAs handsBack tableFrom
   read-places =
-      ap (λ (f : Refusal). length (handsBack f (tableFrom s) .rows)) a ∙ padded-places (byteAt s 3) (rowsFrom s 4 (byteAt s 3)) (rows-count s 4 (byteAt s 3)) (read-head .few)
+      ap (λ (f : Refusal). length (handsBack f (tableFrom s) .rows)) a ∙ padded-places (countByte s) (rowsFrom s 4 (countByte s)) (rows-count s 4 (countByte s)) (read-head .few)
 
   pub written-back : Bytes s → fileBytes (readAs s .table) ≡ s
   unfolding readAs handsBack

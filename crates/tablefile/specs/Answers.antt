@@ -12,15 +12,15 @@ use Rattle.table.specs.declared.Table.{Table}
 use Rattle.table.specs.Rows.{blank}
 use Rattle.reserve.specs.Check.{tableRefusal}
 use Rattle.tablefile.specs.declared.Reading.{Reading}
-use Rattle.tablefile.specs.Layout.{follow, byteAt, wordAt, tableFrom}
+use Rattle.tablefile.specs.Layout.{follow, lengthField, versionByte, countByte, tableFrom}
 
 -- 'Order for a file: 12 (under 4 bytes, or the length field differs from the bytes that follow), 13, 1, 2, 12 (length not 2+6n)'
 unfoldable pub headRefusal : List ℕ → Refusal
 headRefusal s =
-    orElse (given (ltb (length s) 4 || not (eqb (wordAt s 0 + 2) (length s))) Size)
-    (orElse (given (not (eqb (byteAt s 2) 1)) Version)
-    (orElse (given (eqb (byteAt s 3) 0) Empty)
-    (orElse (given (ltb 16 (byteAt s 3)) Many) (given (not (eqb (wordAt s 0) (follow (byteAt s 3)))) Size))))
+    orElse (given (ltb (length s) 4 || not (eqb (lengthField s + 2) (length s))) Size)
+    (orElse (given (not (eqb (versionByte s) 1)) Version)
+    (orElse (given (eqb (countByte s) 0) Empty)
+    (orElse (given (ltb 16 (countByte s)) Many) (given (not (eqb (lengthField s) (follow (countByte s)))) Size))))
 
 -- 'then rows from the first, in each row 3, 4, 5, then 6, then 7': those of the table read, whose 1 and 2 have been asked
 unfoldable pub fileRefusal : List ℕ → Refusal

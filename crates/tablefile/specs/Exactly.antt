@@ -8,23 +8,23 @@ use lib.ListN.{length}
 use Rattle.refusal.specs.declared.Refusal.{Refusal}
 use Rattle.refusal.specs.declared.Refusal.the-variants.{None, Empty, Many, Zero, Long, Order, Cycle, Tight, Room, Record, Report, Stray, Size, Version}
 use Rattle.reserve.specs.Exactly.{Counted, TableGives}
-use Rattle.tablefile.specs.Layout.{follow, byteAt, wordAt, tableFrom}
+use Rattle.tablefile.specs.Layout.{follow, lengthField, versionByte, countByte, tableFrom}
 
 -- 12, the first time: 'under 4 bytes, or the length field differs from the bytes that follow'
 abbrev pub Cut : List ℕ → Type 0
-Cut s = (length s < 4) ⊎ (wordAt s 0 + 2 ≢ length s)
+Cut s = (length s < 4) ⊎ (lengthField s + 2 ≢ length s)
 
 -- it does not apply
 abbrev pub Whole : List ℕ → Type 0
-Whole s = (4 ≤ length s) × (wordAt s 0 + 2 ≡ length s)
+Whole s = (4 ≤ length s) × (lengthField s + 2 ≡ length s)
 
 -- nor does 13
 abbrev pub Versioned : List ℕ → Type 0
-Versioned s = Whole s × (byteAt s 2 ≡ 1)
+Versioned s = Whole s × (versionByte s ≡ 1)
 
 -- the length field says 2+6n
 abbrev pub RightLength : List ℕ → Type 0
-RightLength s = wordAt s 0 ≡ follow (byteAt s 3)
+RightLength s = lengthField s ≡ follow (countByte s)
 
 -- none of 12, 13 and 12 applies
 abbrev pub Framed : List ℕ → Type 0
@@ -34,7 +34,7 @@ Framed s = Versioned s × RightLength s
 unfoldable pub FileGives : List ℕ → Refusal → Type 0
 FileGives s Size = Cut s ⊎ (Versioned s × Counted (tableFrom s) × (RightLength s → ⊥))
 -- 'the version byte isn't 1'
-FileGives s Version = Whole s × (byteAt s 2 ≢ 1)
+FileGives s Version = Whole s × (versionByte s ≢ 1)
 -- 1 and 2 come before the second 12
 FileGives s Empty = Versioned s × TableGives (tableFrom s) Empty
 FileGives s Many = Versioned s × TableGives (tableFrom s) Many

@@ -28,7 +28,7 @@ rowsBytes (r ∷ rs) = rowBytes r ++ rowsBytes rs
 unfoldable pub fileBytes : Table → List ℕ
 fileBytes t = wordBytes (follow (t .n)) ++ (1 ∷ t .n ∷ rowsBytes (used t))
 
--- ---- what is read from bytes: a file's length field stands at place 0, its version at 2, n at 3, its rows from 4 on
+-- ---- what is read from bytes
 -- the byte at a place, 0 past the end
 abbrev pub byteAt : List ℕ → ℕ → ℕ
 byteAt s at = getD s at 0
@@ -36,6 +36,18 @@ byteAt s at = getD s at 0
 -- the word at a place, 'Big-endian'
 unfoldable pub wordAt : List ℕ → ℕ → ℕ
 wordAt s at = byteAt s at * 256 + byteAt s (at + 1)
+
+-- 'Two bytes: the number of bytes that follow them.'
+abbrev pub lengthField : List ℕ → ℕ
+lengthField s = wordAt s 0
+
+-- 'One version byte'
+abbrev pub versionByte : List ℕ → ℕ
+versionByte s = byteAt s 2
+
+-- 'One byte: the number of rows n.'
+abbrev pub countByte : List ℕ → ℕ
+countByte s = byteAt s 3
 
 -- the row at a place, 'period, p, a, two bytes each'
 unfoldable pub rowFrom : List ℕ → ℕ → Row
@@ -50,6 +62,6 @@ rowsFrom s at (suc n) = rowFrom s at ∷ rowsFrom s (at + 6) n
 abbrev pub padded : ℕ → List Row → List Row
 padded n rs = rs ++ replicate (16 - n) blank
 
--- the table that a file holds
+-- the table that a file holds, its rows from place 4 on
 unfoldable pub tableFrom : List ℕ → Table
-tableFrom s = record { n = byteAt s 3; rows = padded (byteAt s 3) (rowsFrom s 4 (byteAt s 3)) }
+tableFrom s = record { n = countByte s; rows = padded (countByte s) (rowsFrom s 4 (countByte s)) }

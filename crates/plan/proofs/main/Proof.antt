@@ -1,6 +1,6 @@
 -- `plan::main` meets its contract.
 -- Assumes nothing.
-use Rattle.plan.proofs.Rows.{read-ready}
+use Rattle.plan.proofs.Accepted.{was-read}
 use borrow.Author.Needs.{needs}
 use Rattle.plan.proofs.main.Statement.{statement}
 use Rattle.plan.proofs.main.Tie as tie
@@ -24,7 +24,7 @@ enum-told : tie.Need-enum-told
 enum-told c = search needs
 
 print-plan-requires : tie.Need-print-plan-requires
-print-plan-requires c κs = search (read-ready)
+print-plan-requires c κs = search (was-read)
 
 print-refusal-requires : tie.Need-print-refusal-requires
 print-refusal-requires c κs = search needs

@@ -1,6 +1,6 @@
 -- `plan::print_plan` meets its contract.
 -- Assumes nothing.
-use Rattle.plan.proofs.Rows.{plan-ready, plan-room}
+use Rattle.plan.proofs.Accepted.{ready, begins, counted}
 use borrow.Author.Needs.{needs}
 use Rattle.plan.proofs.print_plan.Statement.{statement}
 use Rattle.plan.proofs.print_plan.Tie as tie
@@ -17,11 +17,11 @@ first-slots-requires c κs = search needs
 print-head-requires : tie.Need-print-head-requires
 print-head-requires c κs = search needs
 
-slice-aggregate-print-rows : tie.Need-slice-aggregate-print-rows
-slice-aggregate-print-rows c = search needs
+slice-aggregate-print-lines : tie.Need-slice-aggregate-print-lines
+slice-aggregate-print-lines c = search needs
 
-print-rows-requires : tie.Need-print-rows-requires
-print-rows-requires c κs = (search (plan-ready), search (plan-room, needs))
+print-lines-requires : tie.Need-print-lines-requires
+print-lines-requires c κs = (search (ready), search (begins), search (counted))
 
 returns : tie.Need-returns
 returns c = search needs
@@ -34,6 +34,6 @@ print-plan-spec =
     slice-aggregate-first-slots
     first-slots-requires
     print-head-requires
-    slice-aggregate-print-rows
-    print-rows-requires
+    slice-aggregate-print-lines
+    print-lines-requires
     returns)
