@@ -3,7 +3,7 @@
 -- Assumes nothing.
 use mathlib.Core.Path.{_≡_, refl, sym, ap, _∙_, subst}
 use mathlib.Core.Logic.{_⊎_, inl, inr, _↔_, ⊎-elim}
-use mathlib.Core.Bool.{true, false, _||_}
+use mathlib.Core.Bool.{Bool, true, false, cond, _||_}
 use mathlib.Core.List.{List}
 use Prim.Native.Nat.{ℕ, zero, suc, _≤_, _<_}
 use native.Mathlib.Numerals.{add-one}
@@ -15,15 +15,17 @@ use lib.Dec.{ltb, eqb}
 use lib.ListN.{length, drop, drop-of-length-le}
 use lib.Seq.{drop-cons}
 use Rattle.refusal.specs.declared.Refusal.{Refusal}
-use Rattle.refusal.specs.declared.Refusal.the-variants.{None, Empty, Many, Zero, Long, Order, Cycle, Tight}
+use Rattle.refusal.specs.declared.Refusal.the-variants.{None, Empty, Many, Zero, Long, Order, Cycle, Tight, Room}
+use Rattle.refusal.specs.Numbers.{numberOf}
 use Rattle.refusal.specs.Order.{accepted, given, orElse}
-use Rattle.refusal.proofs.Order.{passes}
+use Rattle.refusal.proofs.Order.{accepted-none, passes}
 use Rattle.table.specs.declared.Row.{Row}
 use Rattle.table.specs.declared.Table.{Table}
 use Rattle.table.specs.Rows.{used, blank, rowAt, cycleOf}
 use Rattle.table.specs.Check.{isZero, isLong, faultOf, faultsOf, rowsRefusal}
 use Rattle.rule.proofs.Tests.{split, side, never, false-if, or-cases, or-left, or-right}
 use Rattle.reserve.specs.Check.{tightOf, tableRefusal}
+use Rattle.reserve.specs.HandOut.{handedRefusal}
 use Rattle.reserve.specs.Exactly.{ZeroRow, LongRow, EarlyRow, SoundRow, Reached, AllSound, Counted, RowGives, TableGives}
 use Rattle.reserve.proofs.Verdict.{after-rows}
 use Rattle.reserve.proofs.Demand2.{tight-exactly, accepted-exactly}
@@ -235,3 +237,21 @@ table-gives t f = (λ e. let g : SomeGives t = some-gives t in subst (TableGives
 -- and one is given at most
 pub gives-one : (t : Table) (f g : Refusal) → TableGives t f → TableGives t g → f ≡ g
 gives-one t f g p q = sym (table-gives t f .1 p) ∙ table-gives t g .1 q
+
+-- a table alone is never refused by 8
+no-room : (t : Table) → tableRefusal t ≡ Room → ⊥
+unfolding TableGives
+no-room t e = table-gives t Room .0 e
+
+-- 8 exactly when none of 1 to 7 applies and the lent output is shorter than its use
+pub room-gives : (t : Table) (new old : List ℕ) → (handedRefusal t new old ≡ Room) ↔ ((tableRefusal t ≡ None) × (length old < length new))
+unfolding handedRefusal orElse
+room-gives t new old = (to (accepted (tableRefusal t)) refl, λ h. rw (h .0, lt-ltb (length old) (length new) (h .1)))
+  where
+    short : (b : Bool) → given b Room ≡ Room → b ≡ true
+    short true e = refl
+    short false e = absurd (omega (arith, ap numberOf e))
+
+    to : (b : Bool) → accepted (tableRefusal t) ≡ b → cond b (given (ltb (length old) (length new)) Room) (tableRefusal t) ≡ Room → (tableRefusal t ≡ None) × (length old < length new)
+    to true a e = (accepted-none (tableRefusal t) a, ltb-true (length old) (length new) (short (ltb (length old) (length new)) e))
+    to false a e = absurd (no-room t e)

@@ -48,14 +48,17 @@ used-padded n rs e = take-at rs (replicate (16 - n) blank) n e
 pub padded-places : (n : ℕ) (rs : List Row) → length rs ≡ n → n ≤ 16 → length (padded n rs) ≡ 16
 padded-places n rs e m = simp (length-append, length-replicate) (omega arith)
 
-module _ (t : Table) (places : Places t) (a : tableRefusal t ≡ None) where
-  rows-none : Accepted t
-  unfolding tableRefusal
-  rows-none = accepted-rows t (none-first _ _ a)
+accepted : (t : Table) → tableRefusal t ≡ None → Accepted t
+unfolding tableRefusal
+accepted t a = accepted-rows t (none-first _ _ a)
 
+pub accepted-few : (t : Table) → tableRefusal t ≡ None → t .n ≤ 16
+accepted-few t a = accepted t a .few
+
+module _ (t : Table) (places : Places t) (a : tableRefusal t ≡ None) where
   used-count : length (used t) ≡ t .n
   unfolding used
-  used-count = length-take-le (t .n) (t .rows) (omega (arith, rows-none .few))
+  used-count = length-take-le (t .n) (t .rows) (omega (arith, accepted-few t a))
 
   used-zeroed : used (zeroed t) ≡ used t
   unfolding zeroed
@@ -69,9 +72,9 @@ module _ (t : Table) (places : Places t) (a : tableRefusal t ≡ None) where
   file-head : headRefusal (fileBytes t) ≡ None
   unfolding fileBytes wordBytes wordAt
   file-head =
-      let size = file-size t places (rows-none .few) in
+      let size = file-size t places (accepted-few t a) in
       let word : wordAt (fileBytes t) 0 ≡ follow (t .n) = div-add-mod' (follow (t .n)) 256 in
-      sym (head-none (fileBytes t) (omega arith) (follow (t .n)) (sym word) (omega arith) 1 refl refl (t .n) refl (ne-of-gt (rows-none .some)) (rows-none .few) refl)
+      sym (head-none (fileBytes t) (omega arith) (follow (t .n)) (sym word) (omega arith) 1 refl refl (t .n) refl (ne-of-gt (accepted t a .some)) (accepted-few t a) refl)
 
   file-rows : rowsFrom (fileBytes t) 4 (t .n) ≡ used t
   unfolding fileBytes wordBytes
