@@ -3,7 +3,7 @@
 -- Assumes nothing.
 use mathlib.Core.Path.{_≡_, refl, sym, ap, _∙_, subst}
 use mathlib.Core.Logic.{_⊎_, inl, inr, _↔_, ⊎-elim}
-use mathlib.Core.Bool.{Bool, true, false, cond, _||_}
+use mathlib.Core.Bool.{true, false, _||_}
 use mathlib.Core.List.{List}
 use Prim.Native.Nat.{ℕ, zero, suc, _≤_, _<_}
 use native.Mathlib.Numerals.{add-one}
@@ -16,9 +16,8 @@ use lib.ListN.{length, drop, drop-of-length-le}
 use lib.Seq.{drop-cons}
 use Rattle.refusal.specs.declared.Refusal.{Refusal}
 use Rattle.refusal.specs.declared.Refusal.the-variants.{None, Empty, Many, Zero, Long, Order, Cycle, Tight, Room}
-use Rattle.refusal.specs.Numbers.{numberOf}
 use Rattle.refusal.specs.Order.{accepted, given, orElse}
-use Rattle.refusal.proofs.Order.{accepted-none, passes}
+use Rattle.refusal.proofs.Order.{passes}
 use Rattle.table.specs.declared.Row.{Row}
 use Rattle.table.specs.declared.Table.{Table}
 use Rattle.table.specs.Rows.{used, blank, rowAt, cycleOf}
@@ -26,7 +25,7 @@ use Rattle.table.specs.Check.{isZero, isLong, faultOf, faultsOf, rowsRefusal}
 use Rattle.rule.proofs.Tests.{split, side, never, false-if, or-cases, or-left, or-right}
 use Rattle.reserve.specs.Check.{tightOf, tableRefusal}
 use Rattle.reserve.specs.HandOut.{handedRefusal}
-use Rattle.reserve.specs.Exactly.{ZeroRow, LongRow, EarlyRow, SoundRow, Reached, AllSound, Counted, RowGives, TableGives}
+use Rattle.reserve.specs.Exactly.{ZeroRow, LongRow, EarlyRow, ClearRow, Reached, AllClear, Counted, RowGives, TableGives, HandedGives}
 use Rattle.reserve.proofs.Verdict.{after-rows}
 use Rattle.reserve.proofs.Demand2.{tight-exactly, accepted-exactly}
 
@@ -118,15 +117,15 @@ module _ (rs : List Row) where
       ∙ ap (λ (k : ℕ). orElse (fault i) (faultsOf k (rowAt rs i .period) (drop (suc i) rs))) (add-one (suc i))
 
   -- rows in which nothing is refused are passed over
-  onward-from : (i : ℕ) → i ≤ length rs → ((k : ℕ) → k < i → SoundRow rs k) → faultsOf 1 0 rs ≡ onward i
+  onward-from : (i : ℕ) → i ≤ length rs → ((k : ℕ) → k < i → ClearRow rs k) → faultsOf 1 0 rs ≡ onward i
   onward-from zero l s = refl
   onward-from (suc i) l s =
-      let here : SoundRow rs i = s i (omega arith) in
+      let here : ClearRow rs i = s i (omega arith) in
       onward-from i (omega arith) (λ k u. s k (omega arith))
       ∙ onward-step i l
       ∙ sym (passes (fault i) (onward (suc i)) (fault-none i (here .not-zero) (here .not-long) (here .not-early)))
 
-  faults-none : AllSound rs → faultsOf 1 0 rs ≡ None
+  faults-none : AllClear rs → faultsOf 1 0 rs ≡ None
   unfolding faultsOf
   faults-none s =
       let end : length rs ≤ length rs = omega arith in
@@ -159,7 +158,7 @@ module _ (t : Table) where
   given-row {k} f a h g =
       rw (counted (g .counted), faults-row rs (g .i) (f k) (g .reached) (h (g .i) (g .what) ∙ ap f (sym (g .named))) a, a, a)
 
-  module _ (c : Counted t) (s : AllSound rs) where
+  module _ (c : Counted t) (s : AllClear rs) where
     given-cycle : 4096 < cycleOf rs → tableRefusal t ≡ Cycle
     unfolding tableRefusal orElse
     given-cycle l = rw (counted c, faults-none rs s, lt-ltb 4096 (cycleOf rs) l)
@@ -186,7 +185,7 @@ module _ (t : Table) where
   SomeGives = (f : Refusal) × TableGives t f
 
   module _ (c : Counted t) where
-    row-gives : (i : ℕ) → Reached rs i → SoundRow rs i ⊎ SomeGives
+    row-gives : (i : ℕ) → Reached rs i → ClearRow rs i ⊎ SomeGives
     unfolding TableGives
     row-gives i r =
         ⊎-elim (λ z. inr (Zero (suc i), record { counted = c; i = i; named = refl; reached = r; what = z }))
@@ -197,14 +196,14 @@ module _ (t : Table) where
         (λ e. inl (record { not-zero = z; not-long = l; not-early = e })) (early-or rs i)) (long-or (rowAt rs i)))
         (zero-or (rowAt rs i))
 
-    rows-give : (m : ℕ) → m ≤ length rs → ((k : ℕ) → k < m → SoundRow rs k) ⊎ SomeGives
-    rows-give zero l = inl (below-none (SoundRow rs))
+    rows-give : (m : ℕ) → m ≤ length rs → ((k : ℕ) → k < m → ClearRow rs k) ⊎ SomeGives
+    rows-give zero l = inl (below-none (ClearRow rs))
     rows-give (suc m) l = ⊎-elim (λ s. ⊎-elim (λ here. inl (more s here)) inr (row-gives m (record { row = l; before = s }))) inr (rows-give m (omega arith))
       where
-        more : ((k : ℕ) → k < m → SoundRow rs k) → SoundRow rs m → (k : ℕ) → k < suc m → SoundRow rs k
+        more : ((k : ℕ) → k < m → ClearRow rs k) → ClearRow rs m → (k : ℕ) → k < suc m → ClearRow rs k
         more s here k u = ⊎-elim (λ (v : k < m). s k v) (λ (v : m ≤ k). let q : k ≡ m = omega arith in rw q here) (side k m)
 
-    module _ (s : AllSound rs) where
+    module _ (s : AllClear rs) where
       rule-gives : cycleOf rs ≤ 4096 → SomeGives
       unfolding TableGives
       rule-gives l = go (tightOf rs) (after-rows t e)
@@ -238,20 +237,52 @@ table-gives t f = (λ e. let g : SomeGives t = some-gives t in subst (TableGives
 pub gives-one : (t : Table) (f g : Refusal) → TableGives t f → TableGives t g → f ≡ g
 gives-one t f g p q = sym (table-gives t f .1 p) ∙ table-gives t g .1 q
 
--- a table alone is never refused by 8
-no-room : (t : Table) → tableRefusal t ≡ Room → ⊥
-unfolding TableGives
-no-room t e = table-gives t Room .0 e
+-- ---- the same where a list is handed out
+module _ (t : Table) (new old : List ℕ) where
+  abbrev room : Refusal
+  room = given (ltb (length old) (length new)) Room
 
--- 8 exactly when none of 1 to 7 applies and the lent output is shorter than its use
-pub room-gives : (t : Table) (new old : List ℕ) → (handedRefusal t new old ≡ Room) ↔ ((tableRefusal t ≡ None) × (length old < length new))
-unfolding handedRefusal orElse
-room-gives t new old = (to (accepted (tableRefusal t)) refl, λ h. rw (h .0, lt-ltb (length old) (length new) (h .1)))
-  where
-    short : (b : Bool) → given b Room ≡ Room → b ≡ true
-    short true e = refl
-    short false e = absurd (omega (arith, ap numberOf e))
+  -- none of 1 to 7
+  handed-last : TableGives t None → handedRefusal t new old ≡ room
+  unfolding handedRefusal
+  handed-last g = sym (passes (tableRefusal t) room (given-if t None g))
 
-    to : (b : Bool) → accepted (tableRefusal t) ≡ b → cond b (given (ltb (length old) (length new)) Room) (tableRefusal t) ≡ Room → (tableRefusal t ≡ None) × (length old < length new)
-    to true a e = (accepted-none (tableRefusal t) a, ltb-true (length old) (length new) (short (ltb (length old) (length new)) e))
-    to false a e = absurd (no-room t e)
+  -- one of them
+  handed-table : (f : Refusal) → accepted f ≡ false → TableGives t f → handedRefusal t new old ≡ f
+  unfolding handedRefusal orElse
+  handed-table f a g = rw (given-if t f g, a)
+
+  handed-if : (f : Refusal) → HandedGives t new old f → handedRefusal t new old ≡ f
+  unfolding HandedGives
+  handed-if None g = handed-last (g .0) ∙ rw (le-ltb (length old) (length new) (g .1))
+  handed-if Room g = handed-last (g .0) ∙ rw (lt-ltb (length old) (length new) (g .1))
+  handed-if Empty g = handed-table Empty refl g
+  handed-if Many g = handed-table Many refl g
+  handed-if (Zero k) g = handed-table (Zero k) refl g
+  handed-if (Long k) g = handed-table (Long k) refl g
+  handed-if (Order k) g = handed-table (Order k) refl g
+  handed-if Cycle g = handed-table Cycle refl g
+  handed-if (Tight k) g = handed-table (Tight k) refl g
+
+  abbrev SomeHanded : Type 0
+  SomeHanded = (f : Refusal) × HandedGives t new old f
+
+  some-handed : (f : Refusal) → TableGives t f → SomeHanded
+  unfolding HandedGives TableGives
+  some-handed None g = ⊎-elim (λ (l : length old < length new). (Room, (g, l))) (λ (l : length new ≤ length old). (None, (g, l))) (side (length old) (length new))
+  some-handed Empty g = (Empty, g)
+  some-handed Many g = (Many, g)
+  some-handed (Zero k) g = (Zero k, g)
+  some-handed (Long k) g = (Long k, g)
+  some-handed (Order k) g = (Order k, g)
+  some-handed Cycle g = (Cycle, g)
+  some-handed (Tight k) g = (Tight k, g)
+
+  pub handed-gives : (f : Refusal) → (handedRefusal t new old ≡ f) ↔ HandedGives t new old f
+  handed-gives f = (to, handed-if f)
+    where
+      to : handedRefusal t new old ≡ f → HandedGives t new old f
+      to e =
+          let table : SomeGives t = some-gives t in
+          let g : SomeHanded = some-handed (table .0) (table .1) in
+          subst (HandedGives t new old) (sym (handed-if (g .0) (g .1)) ∙ e) (g .1)

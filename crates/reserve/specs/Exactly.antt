@@ -1,5 +1,5 @@
 -- When each refusal of a table given as rows is given, in the words of document 01's table 'Numbers of refusal' and of its order: 'The first that applies is given, and a
--- later one only if no earlier one applies.' No test, no fold and no code is in it. Rows are counted from 0 here: row i is document 01's row i + 1.
+-- later one only if no earlier one applies.' The chain of tests that the code meets is not in it. Rows are counted from 0 here: row i is document 01's row i + 1.
 -- Assumes nothing: these are definitions.
 use mathlib.Core.Path.{_≡_}
 use mathlib.Core.Logic.{_⊎_}
@@ -28,7 +28,7 @@ EarlyRow rs zero = ⊥
 EarlyRow rs (suc i) = rowAt rs (suc i) .period < rowAt rs i .period
 
 -- nothing is refused in row i
-pub record SoundRow (rs : List Row) (i : ℕ) : Type 0 where
+pub record ClearRow (rs : List Row) (i : ℕ) : Type 0 where
   pub not-zero : ZeroRow (rowAt rs i) → ⊥
   pub not-long : LongRow (rowAt rs i) → ⊥
   pub not-early : EarlyRow rs i → ⊥
@@ -36,11 +36,11 @@ pub record SoundRow (rs : List Row) (i : ℕ) : Type 0 where
 -- 'then rows from the first': row i is one of the rows, and nothing is refused in a row before it
 pub record Reached (rs : List Row) (i : ℕ) : Type 0 where
   pub row : i < length rs
-  pub before : (k : ℕ) → k < i → SoundRow rs k
+  pub before : (k : ℕ) → k < i → ClearRow rs k
 
 -- nothing is refused in any row
-abbrev pub AllSound : List Row → Type 0
-AllSound rs = (k : ℕ) → k < length rs → SoundRow rs k
+abbrev pub AllClear : List Row → Type 0
+AllClear rs = (k : ℕ) → k < length rs → ClearRow rs k
 
 -- ---- what is refused in a table
 -- neither 1 nor 2
@@ -58,7 +58,7 @@ pub record RowGives (t : Table) (k : ℕ) (What : ℕ → Type 0) : Type 0 where
 -- the refusal is given exactly when
 unfoldable pub TableGives : Table → Refusal → Type 0
 TableGives t None =
-    Counted t × AllSound (used t) × (cycleOf (used t) ≤ 4096) × ((i j : ℕ) → i < length (used t) → ShortJob (used t) i j → ⊥)
+    Counted t × AllClear (used t) × (cycleOf (used t) ≤ 4096) × ((i j : ℕ) → i < length (used t) → ShortJob (used t) i j → ⊥)
 -- 1: 'n is 0'
 TableGives t Empty = t .n ≡ 0
 -- 2: 'n is over 16'
@@ -68,10 +68,10 @@ TableGives t (Zero k) = RowGives t k (λ i. ZeroRow (rowAt (used t) i))
 TableGives t (Long k) = RowGives t k (λ i. (ZeroRow (rowAt (used t) i) → ⊥) × LongRow (rowAt (used t) i))
 TableGives t (Order k) = RowGives t k (λ i. (ZeroRow (rowAt (used t) i) → ⊥) × (LongRow (rowAt (used t) i) → ⊥) × EarlyRow (used t) i)
 -- 'then 6': 'the cycle is over 4,096'
-TableGives t Cycle = Counted t × AllSound (used t) × (4096 < cycleOf (used t))
+TableGives t Cycle = Counted t × AllClear (used t) × (4096 < cycleOf (used t))
 -- 'then 7': 'the reservation rule leaves a job short', and the first row with such a job is named
 TableGives t (Tight k) =
-    Counted t × AllSound (used t) × (cycleOf (used t) ≤ 4096) × ((i : ℕ) × (k ≡ suc i) × TightAt (used t) i)
+    Counted t × AllClear (used t) × (cycleOf (used t) ≤ 4096) × ((i : ℕ) × (k ≡ suc i) × TightAt (used t) i)
 -- the others are not about a table
 TableGives t Room = ⊥
 TableGives t Record = ⊥
@@ -79,3 +79,23 @@ TableGives t Report = ⊥
 TableGives t Stray = ⊥
 TableGives t Size = ⊥
 TableGives t Version = ⊥
+
+-- ---- what is refused where a list is handed out: `new` is the list, `old` what the lent output holds
+unfoldable pub HandedGives : Table → List ℕ → List ℕ → Refusal → Type 0
+HandedGives t new old None = TableGives t None × (length new ≤ length old)
+-- 8, after 1 to 7: 'a lent output is shorter than its use'
+HandedGives t new old Room = TableGives t None × (length old < length new)
+-- 1 to 7
+HandedGives t new old Empty = TableGives t Empty
+HandedGives t new old Many = TableGives t Many
+HandedGives t new old (Zero k) = TableGives t (Zero k)
+HandedGives t new old (Long k) = TableGives t (Long k)
+HandedGives t new old (Order k) = TableGives t (Order k)
+HandedGives t new old Cycle = TableGives t Cycle
+HandedGives t new old (Tight k) = TableGives t (Tight k)
+-- the others are not about a list that is handed out
+HandedGives t new old Record = ⊥
+HandedGives t new old Report = ⊥
+HandedGives t new old Stray = ⊥
+HandedGives t new old Size = ⊥
+HandedGives t new old Version = ⊥

@@ -1,4 +1,4 @@
--- What the private functions of the sweep and the scan say of their work: no promise names these.
+-- What private functions say of their work, those of the sweep and the scan and, by `Ready`, a program's: no promise names these.
 -- Assumes nothing: these are definitions.
 use mathlib.Core.Path.{_≡_}
 use mathlib.Core.Bool.{cond, _&&_}

@@ -4,8 +4,7 @@
 use mathlib.Core.Path.{_≡_, sym, _∙_, ap}
 use mathlib.Core.Logic.{_↔_}
 use mathlib.Core.List.{List, _++_}
-use Prim.Native.Nat.{ℕ, _+_, _*_, _≤_, _<_}
-use native.Mathlib.Omega.{arith}
+use Prim.Native.Nat.{ℕ, _+_, _*_, _≤_}
 use lib.ListN.{length, take, drop}
 use lib.Seq.{take-at}
 use denote.Ref.{now}
@@ -13,13 +12,14 @@ use denote.Triple.Clauses.{AtExit}
 use contract.Lifetimes.{Lfts}
 use borrow.Fn.Kinds.{Dens, resT, endedOf}
 use Rattle.refusal.specs.declared.Refusal.{Refusal}
-use Rattle.refusal.specs.declared.Refusal.the-variants.{None, Room}
+use Rattle.refusal.specs.declared.Refusal.the-variants.{None}
 use Rattle.table.specs.declared.Table.{Table}
 use Rattle.reserve.specs.declared.Handed.{Handed}
 use Rattle.reserve.specs.Check.{tableRefusal}
+use Rattle.reserve.specs.Exactly.{HandedGives}
 use Rattle.reserve.specs.HandOut.{handedRefusal, handed}
 use Rattle.reserve.proofs.HandedOut.{out-none, out-table, out-used, out-places}
-use Rattle.reserve.proofs.Exactly.{room-gives}
+use Rattle.reserve.proofs.Exactly.{handed-gives}
 use Rattle.tablefile.specs.declared.Reading.{Reading}
 use Rattle.tablefile.specs.Layout.{fileBytes}
 use Rattle.tablefile.specs.Answers.{fileRefusal, readAs}
@@ -54,18 +54,14 @@ module _ (κs : Lfts 1) (given : Dens κs write-kinds.ps) (wrote : resT write-ki
       let u : wrote .used ≡ length (fileBytes t) = ap (λ (h : Handed). h .used) (meets .0) ∙ out-used t (fileBytes t) old d in
       ap (λ (l : List ℕ). take (wrote .used) l) (meets .1 ∙ out-places t (fileBytes t) old d) ∙ take-at (fileBytes t) (drop (length (fileBytes t)) old) (wrote .used) (sym u)
 
-  -- 8 exactly when none of 1 to 7 applies and there are fewer than 4+6n bytes
-  pub write-room : Places t → (wrote .refusal ≡ Room) ↔ ((tableRefusal t ≡ None) × (length old < 4 + 6 * t .n))
-  write-room p = (to, from)
-    where
-      size : tableRefusal t ≡ None → length (fileBytes t) ≡ 4 + 6 * t .n
-      size a = file-size t p (accepted-few t a)
+  -- each of the writer's numbers exactly when document 01 says and no earlier one applies
+  pub write-gives : (f : Refusal) → (wrote .refusal ≡ f) ↔ HandedGives t (fileBytes t) old f
+  write-gives f =
+      (λ e. handed-gives t (fileBytes t) old f .0 (sym wrote-refusal ∙ e), λ g. wrote-refusal ∙ handed-gives t (fileBytes t) old f .1 g)
 
-      to : wrote .refusal ≡ Room → (tableRefusal t ≡ None) × (length old < 4 + 6 * t .n)
-      to e = let h = room-gives t (fileBytes t) old .0 (sym wrote-refusal ∙ e) in (h .0, omega (arith, h .1, size (h .0)))
-
-      from : (tableRefusal t ≡ None) × (length old < 4 + 6 * t .n) → wrote .refusal ≡ Room
-      from h = wrote-refusal ∙ room-gives t (fileBytes t) old .1 (h .0, omega (arith, h .1, size (h .0)))
+  -- its use is 4+6n bytes
+  pub write-needs : Places t → tableRefusal t ≡ None → length (fileBytes t) ≡ 4 + 6 * t .n
+  write-needs p a = file-size t p (accepted-few t a)
 
   -- and one of `read`: the file, and the reading
   module _ (κs' : Lfts 1) (lent : Dens κs' read-kinds.ps) (got : resT read-kinds.r κs' .Denot) (after : AtExit (endedOf 1 read-kinds.ps read-kinds.r) κs') (reads : read.Post κs' lent got after) where

@@ -20,7 +20,7 @@ use Rattle.reserve.specs.Exactly.{Counted, TableGives}
 use Rattle.reserve.proofs.Exactly.{table-gives}
 use Rattle.tablefile.specs.Layout.{follow, lengthField, versionByte, countByte, tableFrom}
 use Rattle.tablefile.specs.Answers.{headRefusal, fileRefusal}
-use Rattle.tablefile.specs.Exactly.{Cut, Whole, Versioned, RightLength, Framed, FileGives}
+use Rattle.tablefile.specs.Exactly.{Unmatched, Matched, Versioned, RightLength, Framed, FileGives}
 use Rattle.tablefile.proofs.HeadCases.{head-under, head-differs, head-version, head-empty, head-many, head-size, head-none}
 
 same : (m n : ℕ) → (m ≡ n) ⊎ (m ≢ n)
@@ -36,12 +36,12 @@ module _ (s : List ℕ) where
   unfolding fileRefusal orElse
   by-head f a e = rw (sym e, a)
 
-  given-cut : Cut s → fileRefusal s ≡ Size
-  given-cut (inl l) = by-head Size refl (head-under s l)
-  given-cut (inr d) =
+  given-unmatched : Unmatched s → fileRefusal s ≡ Size
+  given-unmatched (inl l) = by-head Size refl (head-under s l)
+  given-unmatched (inr d) =
       ⊎-elim (λ (l : length s < 4). by-head Size refl (head-under s l)) (λ (l : 4 ≤ length s). by-head Size refl (head-differs s l (lengthField s) refl d)) (side (length s) 4)
 
-  given-version : Whole s → versionByte s ≢ 1 → fileRefusal s ≡ Version
+  given-version : Matched s → versionByte s ≢ 1 → fileRefusal s ≡ Version
   given-version w d = by-head Version refl (head-version s (w .0) (lengthField s) refl (w .1) (versionByte s) refl d)
 
   module _ (v : Versioned s) where
@@ -74,7 +74,7 @@ module _ (s : List ℕ) where
   given-if (Order k) g = given-rows (g .0 .0) (g .1 .counted) (g .0 .1) (Order k) (g .1)
   given-if Cycle g = given-rows (g .0 .0) (g .1 .0) (g .0 .1) Cycle (g .1)
   given-if (Tight k) g = given-rows (g .0 .0) (g .1 .0) (g .0 .1) (Tight k) (g .1)
-  given-if Size (inl c) = given-cut c
+  given-if Size (inl c) = given-unmatched c
   given-if Size (inr g) = given-size (g .0) (g .1) (g .2)
   given-if Version g = given-version (g .0) (g .1)
 

@@ -1,6 +1,6 @@
 -- The reader: what each function of it answers, from the facts on the code's way to it.
 -- Assumes nothing.
-use mathlib.Core.Path.{_≡_, refl, sym, _∙_, ap, ap₂}
+use mathlib.Core.Path.{_≡_, sym, _∙_, ap, ap₂}
 use mathlib.Core.List.{List, [], _∷_, _++_}
 use Prim.Native.Nat.{ℕ, suc, _+_, _-_, _*_, _≤_, _<_}
 use native.Mathlib.Omega.{arith}
@@ -40,9 +40,9 @@ pub record Read (s : List ℕ) (n i : ℕ) (rows : List Row) : Type 0 where
   pub upto : i ≤ n
   pub done : rows ≡ padded i (rowsFrom s 4 i)
 
-pub rows-start : (s : List ℕ) (n : ℕ) → Read s n 0 (replicate 16 blank)
+pub rows-start : (s : List ℕ) (n : ℕ) (z : Table) → z ≡ zeroTable → Read s n 0 (z .rows)
 unfolding rowsFrom
-rows-start s n = record { upto = omega arith; done = refl }
+rows-start s n z e = record { upto = omega arith; done = ap (λ (t : Table). t .rows) e }
 
 pub rows-step : {s : List ℕ} {n i : ℕ} {rows : List Row} → Read s n i rows → i < n → n ≤ 16 → (r : Row) → r ≡ rowFrom s (4 + 6 * i) → Read s n (i + 1) (set rows i r)
 rows-step {s} {n} {i} {rows} inv l m r e =

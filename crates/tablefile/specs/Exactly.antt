@@ -11,30 +11,31 @@ use Rattle.reserve.specs.Exactly.{Counted, TableGives}
 use Rattle.tablefile.specs.Layout.{follow, lengthField, versionByte, countByte, tableFrom}
 
 -- 12, the first time: 'under 4 bytes, or the length field differs from the bytes that follow'
-abbrev pub Cut : List ℕ → Type 0
-Cut s = (length s < 4) ⊎ (lengthField s + 2 ≢ length s)
+abbrev pub Unmatched : List ℕ → Type 0
+Unmatched s = (length s < 4) ⊎ (lengthField s + 2 ≢ length s)
 
--- it does not apply
-abbrev pub Whole : List ℕ → Type 0
-Whole s = (4 ≤ length s) × (lengthField s + 2 ≡ length s)
+-- that does not apply
+abbrev pub Matched : List ℕ → Type 0
+Matched s = (4 ≤ length s) × (lengthField s + 2 ≡ length s)
 
--- nor does 13
+-- neither that nor 13 applies
 abbrev pub Versioned : List ℕ → Type 0
-Versioned s = Whole s × (versionByte s ≡ 1)
+Versioned s = Matched s × (versionByte s ≡ 1)
 
 -- the length field says 2+6n
 abbrev pub RightLength : List ℕ → Type 0
 RightLength s = lengthField s ≡ follow (countByte s)
 
--- none of 12, 13 and 12 applies
+-- neither of the two 12 nor 13 applies
 abbrev pub Framed : List ℕ → Type 0
 Framed s = Versioned s × RightLength s
 
--- the refusal is given exactly when; 12, the second time: 'length not 2+6n'
+-- the refusal is given exactly when
 unfoldable pub FileGives : List ℕ → Refusal → Type 0
-FileGives s Size = Cut s ⊎ (Versioned s × Counted (tableFrom s) × (RightLength s → ⊥))
+-- 12, the first time; the second time: 'length not 2+6n', after 13, 1 and 2
+FileGives s Size = Unmatched s ⊎ (Versioned s × Counted (tableFrom s) × (RightLength s → ⊥))
 -- 'the version byte isn't 1'
-FileGives s Version = Whole s × (versionByte s ≢ 1)
+FileGives s Version = Matched s × (versionByte s ≢ 1)
 -- 1 and 2 come before the second 12
 FileGives s Empty = Versioned s × TableGives (tableFrom s) Empty
 FileGives s Many = Versioned s × TableGives (tableFrom s) Many

@@ -19,6 +19,19 @@ pub struct Reading {
     pub table: Table,
 }
 
+// The table of zeros, which stands beside every refusal.
+fn zeros() -> Table
+    ensures { λ r. ⌜ r ≡ zeroTable ⌝ }
+{
+    let zero = Row {
+        period: 0,
+        primary: 0,
+        alternate: 0,
+    };
+    let rows = [zero; 16];
+    Table { n: 0, rows }
+}
+
 // The byte at a place, 0 past the end.
 fn byte(s: &[u8], at: usize) -> u8
     ensures { λ r. ⌜ r ≡ byteAt (now (s .entry)) at ⌝ }
@@ -26,9 +39,9 @@ fn byte(s: &[u8], at: usize) -> u8
     if at < s.len() { s[at] } else { 0 }
 }
 
-// The word at a place: two bytes, the high one first.
+// The word at a place: two bytes, the high one first. No place that is asked for is past the hundredth, so none overflows.
 fn word(s: &[u8], at: usize) -> u16
-    requires { ⌜ at < 1000 ⌝ }
+    requires { ⌜ at < 100 ⌝ }
     ensures { λ r. ⌜ r ≡ wordAt (now (s .entry)) at ⌝ }
 {
     let high = byte(s, at);
@@ -38,7 +51,7 @@ fn word(s: &[u8], at: usize) -> u16
 
 // The row at a place: three words.
 fn row_from(s: &[u8], at: usize) -> Row
-    requires { ⌜ at < 900 ⌝ }
+    requires { ⌜ at < 96 ⌝ }
     ensures { λ r. ⌜ r ≡ rowFrom (now (s .entry)) at ⌝ }
 {
     let period = word(s, at);
@@ -56,12 +69,8 @@ fn rows_from(s: &[u8], n: u8) -> [Row; 16]
     requires { ⌜ n ≤ 16 ⌝ }
     ensures { λ r. ⌜ r ≡ padded n (rowsFrom (now (s .entry)) 4 n) ⌝ }
 {
-    let zero = Row {
-        period: 0,
-        primary: 0,
-        alternate: 0,
-    };
-    let mut rows = [zero; 16];
+    let zero = zeros();
+    let mut rows = zero.rows;
     let mut i: u8 = 0;
     while i < n {
         let at = i as usize;
@@ -101,20 +110,7 @@ fn head(s: &[u8]) -> Refusal
     Refusal::None
 }
 
-// The table beside every refusal.
-fn zeros() -> Table
-    ensures { λ r. ⌜ r ≡ zeroTable ⌝ }
-{
-    let zero = Row {
-        period: 0,
-        primary: 0,
-        alternate: 0,
-    };
-    let rows = [zero; 16];
-    Table { n: 0, rows }
-}
-
-// The table of a file whose head is accepted, where its rows are accepted too.
+// The reading of a file whose head is accepted: its table, or the refusal of its rows beside zeros.
 fn judged(t: Table) -> Reading
     ensures { λ r. ⌜ (r .refusal ≡ tableRefusal t) × (r .table ≡ handsBack (tableRefusal t) t) ⌝ }
 {

@@ -12,8 +12,11 @@ Inv-loop s n rows₀ i₀ rows i = Read s n i rows
 abbrev μ-loop : tie.MeasureT-loop
 μ-loop s n rows₀ i₀ rows i = n - i
 
+zeros-requires : tie.Need-zeros-requires Inv-loop μ-loop
+zeros-requires c κs = search needs
+
 loop-holds : tie.Need-loop-holds Inv-loop μ-loop
-loop-holds c = rows-start _ _
+loop-holds c = search (rows-start)
 
 cast-at : tie.Need-cast-at Inv-loop μ-loop
 cast-at c = search needs
@@ -51,6 +54,7 @@ rows-from-spec =
     (tie.spec
     Inv-loop
     μ-loop
+    zeros-requires
     loop-holds
     cast-at
     mul-row-from
