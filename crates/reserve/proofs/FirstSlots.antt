@@ -5,7 +5,7 @@ use mathlib.Core.List.{List, [], _∷_, _++_}
 use Prim.Native.Nat.{ℕ, zero, suc, _+_, _-_, _≤_, _<_}
 use native.Mathlib.Omega.{arith}
 use lib.Dec.{eqb}
-use lib.ListN.{getD, length, length-append, List·getD-append}
+use lib.ListN.{getD, length, List·getD-append}
 use lib.Seq.{getD-append-add}
 use borrow.Author.Tests.{eqb-true, eq-eqb}
 use Rattle.table.specs.declared.Row.{Row}

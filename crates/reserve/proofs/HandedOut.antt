@@ -26,7 +26,26 @@ use Rattle.reserve.specs.HandOut.{handedRefusal, handed, handedOver}
 use Rattle.reserve.specs.Turns.{Ready, Listed}
 use Rattle.reserve.proofs.Verdict.{checked-refusal, table-ready}
 
--- ---- any list
+-- ---- an acceptance: when there is one, and what it says of any list handed out
+module _ (t : Table) (new old : List ℕ) where
+  pub out-none : tableRefusal t ≡ None → length new ≤ length old → handedRefusal t new old ≡ None
+  unfolding handedRefusal
+  out-none e l = sym (passes (tableRefusal t) (given (ltb (length old) (length new)) Room) e) ∙ rw (le-ltb (length old) (length new) l)
+
+  module _ (e : handedRefusal t new old ≡ None) where
+    pub out-table : tableRefusal t ≡ None
+    unfolding handedRefusal
+    out-table = none-first _ _ e
+
+    pub out-used : handed t new old .used ≡ length new
+    unfolding handed
+    out-used = sym (beside-none (handedRefusal t new old) (length new) e)
+
+    pub out-places : handedOver t new old ≡ new ++ drop (length new) old
+    unfolding handedOver
+    out-places = sym (overlaid-none (handedRefusal t new old) new old e)
+
+-- ---- the code's ways out, after the check, of any list
 module _ (t : Table) (checked : Checked) (e : checked ≡ tableCheck t) (new old : List ℕ) where
   abbrev later : Refusal
   later = given (ltb (length old) (length new)) Room
@@ -57,7 +76,7 @@ module _ (t : Table) (checked : Checked) (e : checked ≡ tableCheck t) (new old
     short-by l = rw (lt-ltb (length old) (length new) (omega arith)) at last
 
     none-by : size ≤ length old → None ≡ handedRefusal t new old
-    none-by l = rw (le-ltb (length old) (length new) (omega arith)) at last
+    none-by l = sym (out-none t new old (sym (checked-refusal t checked e) ∙ d) (omega arith))
 
     pub handed-short : length old < size → _≡_ {A = Handed} (record { refusal = Room; used = 0 }) (handed t new old)
     unfolding beside
@@ -76,25 +95,6 @@ module _ (t : Table) (checked : Checked) (e : checked ≡ tableCheck t) (new old
 
     pub set-over : (out : List ℕ) → size ≤ length old → out ≡ sets old 0 new → out ≡ handedOver t new old
     set-over out l h = laid-over out l (h ∙ sets-laid new old (omega arith) ∙ rw n)
-
--- ---- what an acceptance says of what was handed out, and when there is one
-module _ (t : Table) (new old : List ℕ) where
-  pub out-none : tableRefusal t ≡ None → length new ≤ length old → handedRefusal t new old ≡ None
-  unfolding handedRefusal
-  out-none e l = sym (passes (tableRefusal t) (given (ltb (length old) (length new)) Room) e) ∙ rw (le-ltb (length old) (length new) l)
-
-  module _ (e : handedRefusal t new old ≡ None) where
-    pub out-table : tableRefusal t ≡ None
-    unfolding handedRefusal
-    out-table = none-first _ _ e
-
-    pub out-used : handed t new old .used ≡ length new
-    unfolding handed
-    out-used = sym (beside-none (handedRefusal t new old) (length new) e)
-
-    pub out-places : handedOver t new old ≡ new ++ drop (length new) old
-    unfolding handedOver
-    out-places = sym (overlaid-none (handedRefusal t new old) new old e)
 
 -- ---- the reservation list
 list-long : (t : Table) → length (reservationList (used t)) ≡ cycleOf (used t)

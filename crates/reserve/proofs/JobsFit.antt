@@ -7,13 +7,10 @@ use Prim.Native.Nat.{ℕ, zero, suc, _+_, _≤_, _<_}
 use native.Mathlib.Omega.{arith}
 use lib.ListN.{length, length-append}
 use Rattle.refusal.specs.declared.Refusal.the-variants.{None}
-use Rattle.refusal.proofs.Order.{none-first}
 use Rattle.table.specs.declared.Row.{Row}
 use Rattle.table.specs.declared.Table.{Table}
 use Rattle.table.specs.Rows.{rowAt, used, cycleOf}
 use Rattle.table.specs.Windows.{opens, closes}
-use Rattle.table.specs.Check.{rowsRefusal}
-use Rattle.table.proofs.Check.{accepted-rows}
 use Rattle.table.proofs.Cycle.{cycle-multiple}
 use Rattle.table.proofs.Windows.{opens-first, closes-next, closes-count}
 use Rattle.rule.specs.Slots.{within}
@@ -27,6 +24,7 @@ use Rattle.reserve.specs.HandOut.{handedRefusal}
 use Rattle.reserve.specs.Demand.{InCycle, Assigned, listed}
 use Rattle.reserve.proofs.Tables.{AllGood}
 use Rattle.reserve.proofs.FirstSlots.{job-count, byte-takes}
+use Rattle.reserve.proofs.Verdict.{table-rows, table-accepted}
 use Rattle.reserve.proofs.HandedOut.{out-none}
 use Rattle.reserve.proofs.Demand2.{list-reserves}
 
@@ -42,19 +40,15 @@ module _ (t : Table) (d : tableRefusal t ≡ None) where
   abbrev free : ℕ → ℕ
   free i = between (held (ends rs) (whole rs) i) 0 (cycleOf rs)
 
-  rows : rowsRefusal t ≡ None
-  unfolding tableRefusal
-  rows = none-first _ _ d
-
   good : AllGood rs
-  good = accepted-rows t rows .good
+  good = table-accepted t d .good
 
   -- each job reserves a slot at least: a isn't 0
   job-some : (i j : ℕ) → i < length rs → InCycle rs i j → 0 < within (takes (ends rs) (whole rs) i) (opens (rowAt rs i) j) (closes (rowAt rs i) j)
   unfolding Assigned
   job-some i j l c =
       omega
-      (arith, good i l .alternate, list-reserves t rows d i j l c .exactly, within-same (listed (reservationList rs) i) (takes (ends rs) (whole rs) i) (opens (rowAt rs i) j) (closes (rowAt rs i) j) (λ s a b. byte-takes rs i s l (omega (arith, c .1))))
+      (arith, good i l .alternate, list-reserves t (table-rows t d) d i j l c .exactly, within-same (listed (reservationList rs) i) (takes (ends rs) (whole rs) i) (opens (rowAt rs i) j) (closes (rowAt rs i) j) (λ s a b. byte-takes rs i s l (omega (arith, c .1))))
 
   -- the last m jobs of row i, from job j on, lie one after the other
   jobs-some : (i m j : ℕ) → i < length rs → 1 ≤ j → j + m ≡ suc (jobsOf rs i) → m ≤ mine i (opens (rowAt rs i) j)
@@ -89,4 +83,4 @@ jobs-fit t d =
 
 -- so 4,096 places are room for the first slots of any table
 pub firsts-fit : (t : Table) (old : List ℕ) → tableRefusal t ≡ None → 4096 ≤ length old → handedRefusal t (firstSlots (used t)) old ≡ None
-firsts-fit t old d l = out-none t (firstSlots (used t)) old d (omega (arith, jobs-fit t d, accepted-rows t (rows t d) .cycle))
+firsts-fit t old d l = out-none t (firstSlots (used t)) old d (omega (arith, jobs-fit t d, table-accepted t d .cycle))

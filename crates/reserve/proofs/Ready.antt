@@ -4,11 +4,11 @@ use mathlib.Core.Path.{_≡_, sym}
 use Prim.Native.Nat.{ℕ, _≤_, _<_}
 use native.Mathlib.Omega.{arith}
 use lib.ListN.{length, getD}
-use lib.Seq.{getD-take, length-take-le}
+use lib.Seq.{getD-take}
 use Rattle.table.specs.declared.Table.{Table}
 use Rattle.table.specs.Rows.{used, blank, rowAt}
 use Rattle.table.proofs.Good.{Good}
-use Rattle.table.proofs.Check.{accepted-rows}
+use Rattle.table.proofs.Check.{accepted-rows, used-count}
 use Rattle.reserve.specs.Turns.{Ready}
 use Rattle.reserve.proofs.Tables.{AllGood}
 
@@ -24,8 +24,7 @@ module _ {t : Table} {cycle : ℕ} (r : Ready t cycle) where
 
   module _ (e : length (t .rows) ≡ 16) where
     pub size : length (used t) ≡ t .n
-    unfolding used
-    size = length-take-le (t .n) (t .rows) (omega (arith, few))
+    size = used-count t e few
 
     pub row-is : (i : ℕ) → i < t .n → getD (t .rows) i blank ≡ rowAt (used t) i
     unfolding used

@@ -15,7 +15,7 @@ use Rattle.table.specs.declared.Table.{Table}
 use Rattle.table.specs.declared.Checked.{Checked}
 use Rattle.table.specs.Rows.{used, cycleOf}
 use Rattle.table.specs.Check.{rowsRefusal, rowsCheck}
-use Rattle.table.proofs.Check.{past-ignored}
+use Rattle.table.proofs.Check.{Accepted, accepted-rows, past-ignored}
 use Rattle.reserve.specs.Check.{tightOf, tableRefusal, tableCheck}
 use Rattle.reserve.specs.HandOut.{handedRefusal, handed, handedOver}
 use Rattle.reserve.specs.Turns.{Ready}
@@ -60,16 +60,24 @@ module _ (t : Table) (rows : Checked) (e : rows ≡ rowsCheck t) where
     check-tight z = answered (Tight k) 0 (rw (lt-ltb 0 k (pos-of-ne-zero z)) at last) refl
 
 -- ---- a table that the check accepts
+module _ (t : Table) (z : tableRefusal t ≡ None) where
+  pub table-rows : rowsRefusal t ≡ None
+  unfolding tableRefusal
+  table-rows = none-first _ _ z
+
+  pub table-accepted : Accepted t
+  table-accepted = accepted-rows t table-rows
+
 module _ (t : Table) (checked : Checked) (e : checked ≡ tableCheck t) where
   pub checked-refusal : checked .refusal ≡ tableRefusal t
   unfolding tableCheck
   checked-refusal = ap (λ (c : Checked). c .refusal) e
 
   pub table-ready : checked .refusal ≡ None → Ready t (checked .cycle)
-  unfolding tableCheck tableRefusal
+  unfolding tableCheck
   table-ready d =
       let z : tableRefusal t ≡ None = sym checked-refusal ∙ d in
-      record { rows = none-first _ _ z; is-cycle = ap (λ (c : Checked). c .cycle) e ∙ sym (beside-none (tableRefusal t) (cycleOf (used t)) z) }
+      record { rows = table-rows t z; is-cycle = ap (λ (c : Checked). c .cycle) e ∙ sym (beside-none (tableRefusal t) (cycleOf (used t)) z) }
 
   pub table-fits : checked .refusal ≡ None → checked .cycle ≤ 4096
   table-fits d = cycle-fits (table-ready d)

@@ -9,6 +9,7 @@ use native.Mathlib.Nat.{pos-of-ne-zero, ne-of-gt}
 use borrow.Author.Tests.{eq-eqb, ne-eqb, lt-ltb, le-ltb, eqb-false, ltb-false}
 use lib.Dec.{ltb, eqb}
 use lib.ListN.{length}
+use lib.Seq.{length-take-le}
 use Rattle.refusal.specs.declared.Refusal.{Refusal}
 use Rattle.refusal.specs.declared.Refusal.the-variants.{None, Empty, Many, Cycle}
 use Rattle.refusal.specs.Order.{given, orElse, beside}
@@ -118,6 +119,11 @@ module _ (t : Table) where
 
   pub accepted-pos : Accepted t → 0 < cycleOf (used t)
   accepted-pos a = cycle-pos (used t) (λ i l. a .good i l .period)
+
+-- ---- a table of sixteen places has as many rows as it says
+pub used-count : (t : Table) → length (t .rows) ≡ 16 → t .n ≤ 16 → length (used t) ≡ t .n
+unfolding used
+used-count t e m = length-take-le (t .n) (t .rows) (omega arith)
 
 -- ---- places past the rows are ignored, whatever they hold
 pub past-ignored : (t t' : Table) → t .n ≡ t' .n → used t ≡ used t' → rowsRefusal t ≡ rowsRefusal t'

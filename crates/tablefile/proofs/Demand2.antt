@@ -4,7 +4,8 @@
 use mathlib.Core.Path.{_≡_, sym, _∙_, ap}
 use mathlib.Core.Logic.{_↔_}
 use mathlib.Core.List.{List, _++_}
-use Prim.Native.Nat.{ℕ, _+_, _*_, _≤_}
+use Prim.Native.Nat.{ℕ, _+_, _*_, _≤_, _<_}
+use native.Mathlib.Omega.{arith}
 use lib.ListN.{length, take, drop}
 use lib.Seq.{take-at}
 use denote.Ref.{now}
@@ -12,14 +13,15 @@ use denote.Triple.Clauses.{AtExit}
 use contract.Lifetimes.{Lfts}
 use borrow.Fn.Kinds.{Dens, resT, endedOf}
 use Rattle.refusal.specs.declared.Refusal.{Refusal}
-use Rattle.refusal.specs.declared.Refusal.the-variants.{None}
+use Rattle.refusal.specs.declared.Refusal.the-variants.{None, Room}
 use Rattle.table.specs.declared.Table.{Table}
 use Rattle.reserve.specs.declared.Handed.{Handed}
 use Rattle.reserve.specs.Check.{tableRefusal}
-use Rattle.reserve.specs.Exactly.{HandedGives}
+use Rattle.reserve.specs.Exactly.{TableGives, HandedGives}
 use Rattle.reserve.specs.HandOut.{handedRefusal, handed}
 use Rattle.reserve.proofs.HandedOut.{out-none, out-table, out-used, out-places}
-use Rattle.reserve.proofs.Exactly.{handed-gives}
+use Rattle.reserve.proofs.Verdict.{table-accepted}
+use Rattle.reserve.proofs.Exactly.{table-gives, handed-gives}
 use Rattle.tablefile.specs.declared.Reading.{Reading}
 use Rattle.tablefile.specs.Layout.{fileBytes}
 use Rattle.tablefile.specs.Answers.{fileRefusal, readAs}
@@ -27,7 +29,7 @@ use Rattle.tablefile.specs.RoundTrips.{Places, Bytes, zeroed}
 use Rattle.tablefile.specs.Exactly.{FileGives}
 use Rattle.tablefile.proofs.FileLayout.{file-size}
 use Rattle.tablefile.proofs.Exactly.{file-gives}
-use Rattle.tablefile.proofs.RoundTrips.{accepted-few, read-back, read-accepted, read-places, written-back}
+use Rattle.tablefile.proofs.RoundTrips.{read-back, read-accepted, read-places, written-back}
 use Rattle.tablefile.proofs.read.Kinds as read-kinds
 use Rattle.tablefile.proofs.read.Reads as read
 use Rattle.tablefile.proofs.write.Kinds as write-kinds
@@ -59,9 +61,14 @@ module _ (κs : Lfts 1) (given : Dens κs write-kinds.ps) (wrote : resT write-ki
   write-gives f =
       (λ e. handed-gives t (fileBytes t) old f .0 (sym wrote-refusal ∙ e), λ g. wrote-refusal ∙ handed-gives t (fileBytes t) old f .1 g)
 
-  -- its use is 4+6n bytes
-  pub write-needs : Places t → tableRefusal t ≡ None → length (fileBytes t) ≡ 4 + 6 * t .n
-  write-needs p a = file-size t p (accepted-few t a)
+  -- 8: none of 1 to 7, and fewer than 4+6n bytes
+  pub write-room : Places t → (wrote .refusal ≡ Room) ↔ (TableGives t None × (length old < 4 + 6 * t .n))
+  unfolding HandedGives
+  write-room p =
+      (λ e. let h = write-gives Room .0 e in (h .0, omega (arith, h .1, size (h .0))), λ h. write-gives Room .1 (h .0, omega (arith, h .1, size (h .0))))
+    where
+      size : TableGives t None → length (fileBytes t) ≡ 4 + 6 * t .n
+      size g = file-size t p (table-accepted t (table-gives t None .1 g) .few)
 
   -- and one of `read`: the file, and the reading
   module _ (κs' : Lfts 1) (lent : Dens κs' read-kinds.ps) (got : resT read-kinds.r κs' .Denot) (after : AtExit (endedOf 1 read-kinds.ps read-kinds.r) κs') (reads : read.Post κs' lent got after) where

@@ -18,7 +18,7 @@ use Rattle.rule.proofs.Tests.{split, side}
 use Rattle.reserve.specs.Check.{tableRefusal}
 use Rattle.reserve.specs.Exactly.{Counted, TableGives}
 use Rattle.reserve.proofs.Exactly.{table-gives}
-use Rattle.tablefile.specs.Layout.{follow, lengthField, versionByte, countByte, tableFrom}
+use Rattle.tablefile.specs.Layout.{lengthFor, lengthField, following, versionByte, countByte, tableFrom}
 use Rattle.tablefile.specs.Answers.{headRefusal, fileRefusal}
 use Rattle.tablefile.specs.Exactly.{Unmatched, Matched, Versioned, RightLength, Framed, FileGives}
 use Rattle.tablefile.proofs.HeadCases.{head-under, head-differs, head-version, head-empty, head-many, head-size, head-none}
@@ -36,31 +36,35 @@ module _ (s : List ℕ) where
   unfolding fileRefusal orElse
   by-head f a e = rw (sym e, a)
 
+  -- as the code asks it
+  field : Matched s → lengthField s + 2 ≡ length s
+  field m = omega (arith, m .0, m .1)
+
   given-unmatched : Unmatched s → fileRefusal s ≡ Size
   given-unmatched (inl l) = by-head Size refl (head-under s l)
   given-unmatched (inr d) =
-      ⊎-elim (λ (l : length s < 4). by-head Size refl (head-under s l)) (λ (l : 4 ≤ length s). by-head Size refl (head-differs s l (lengthField s) refl d)) (side (length s) 4)
+      ⊎-elim (λ (l : length s < 4). by-head Size refl (head-under s l)) (λ (l : 4 ≤ length s). by-head Size refl (head-differs s l (lengthField s) refl (λ e. d (omega arith)))) (side (length s) 4)
 
   given-version : Matched s → versionByte s ≢ 1 → fileRefusal s ≡ Version
-  given-version w d = by-head Version refl (head-version s (w .0) (lengthField s) refl (w .1) (versionByte s) refl d)
+  given-version w d = by-head Version refl (head-version s (w .0) (lengthField s) refl (field w) (versionByte s) refl d)
 
   module _ (v : Versioned s) where
     given-empty : n ≡ 0 → fileRefusal s ≡ Empty
-    given-empty e = by-head Empty refl (head-empty s (v .0 .0) (lengthField s) refl (v .0 .1) (versionByte s) refl (v .1) n refl e)
+    given-empty e = by-head Empty refl (head-empty s (v .0 .0) (lengthField s) refl (field (v .0)) (versionByte s) refl (v .1) n refl e)
 
     given-many : 16 < n → fileRefusal s ≡ Many
-    given-many l = by-head Many refl (head-many s (v .0 .0) (lengthField s) refl (v .0 .1) (versionByte s) refl (v .1) n refl (λ z. omega arith) l)
+    given-many l = by-head Many refl (head-many s (v .0 .0) (lengthField s) refl (field (v .0)) (versionByte s) refl (v .1) n refl (λ z. omega arith) l)
 
     module _ (c : Counted (tableFrom s)) where
       given-size : (RightLength s → ⊥) → fileRefusal s ≡ Size
       unfolding tableFrom
-      given-size d = by-head Size refl (head-size s (v .0 .0) (lengthField s) refl (v .0 .1) (versionByte s) refl (v .1) n refl (ne-of-gt (c .0)) (c .1) d)
+      given-size d = by-head Size refl (head-size s (v .0 .0) (lengthField s) refl (field (v .0)) (versionByte s) refl (v .1) n refl (ne-of-gt (c .0)) (c .1) d)
 
       -- after the head, what the table gives
       given-rows : RightLength s → (f : Refusal) → TableGives (tableFrom s) f → fileRefusal s ≡ f
       unfolding tableFrom fileRefusal
       given-rows l f g =
-          let h = head-none s (v .0 .0) (lengthField s) refl (v .0 .1) (versionByte s) refl (v .1) n refl (ne-of-gt (c .0)) (c .1) l in
+          let h = head-none s (v .0 .0) (lengthField s) refl (field (v .0)) (versionByte s) refl (v .1) n refl (ne-of-gt (c .0)) (c .1) l in
           sym (passes (headRefusal s) (tableRefusal (tableFrom s)) (sym h)) ∙ table-gives (tableFrom s) f .1 g
 
   -- nothing gives the variants that have no clause here
@@ -103,7 +107,7 @@ module _ (s : List ℕ) where
       ⊎-elim (λ (e : RightLength s).
       let f = tableRefusal (tableFrom s) in
       (f, framed-gives (v, e) f (table-gives (tableFrom s) f .0 refl)))
-      (λ d. (Size, inr (v, (p, l), d))) (same (lengthField s) (follow n))) (side 16 n))
+      (λ d. (Size, inr (v, (p, l), d))) (same (lengthField s) (lengthFor n))) (side 16 n))
       (eq-zero-or-pos n)
 
   some-gives : SomeGives
@@ -111,9 +115,9 @@ module _ (s : List ℕ) where
   some-gives =
       ⊎-elim (λ (l : length s < 4). (Size, inl (inl l)))
       (λ (l : 4 ≤ length s).
-      ⊎-elim (λ (e : lengthField s + 2 ≡ length s).
+      ⊎-elim (λ (e : lengthField s ≡ following s).
       ⊎-elim (λ (v : versionByte s ≡ 1). versioned-gives ((l, e), v)) (λ d. (Version, ((l, e), d))) (same (versionByte s) 1))
-      (λ d. (Size, inl (inr d))) (same (lengthField s + 2) (length s)))
+      (λ d. (Size, inl (inr d))) (same (lengthField s) (following s)))
       (side (length s) 4)
 
 -- 'Order for a file': each number exactly when document 01 says and no earlier one applies

@@ -4,11 +4,12 @@ use mathlib.Core.Path.{_≡_, refl, sym, _∙_, ap, ap₂}
 use mathlib.Core.List.{List, [], _∷_, _++_, append-assoc}
 use Prim.Native.Nat.{ℕ, zero, suc, _+_, _*_, _≤_}
 use native.Mathlib.Omega.{arith}
-use lib.ListN.{length, take}
-use lib.Seq.{getD-append-add, length-take-le}
+use lib.ListN.{length}
+use lib.Seq.{getD-append-add}
 use Rattle.table.specs.declared.Row.{Row}
 use Rattle.table.specs.declared.Table.{Table}
 use Rattle.table.specs.Rows.{used}
+use Rattle.table.proofs.Check.{used-count}
 use Rattle.tablefile.specs.Layout.{wordBytes, rowBytes, rowsBytes, fileBytes, byteAt, wordAt, rowFrom, rowsFrom}
 
 -- ---- lengths
@@ -24,8 +25,8 @@ rows-size (r ∷ rs) = omega (arith, rows-size rs)
 
 -- 'The file writer needs 4+6n'
 pub file-size : (t : Table) → length (t .rows) ≡ 16 → t .n ≤ 16 → length (fileBytes t) ≡ 4 + 6 * t .n
-unfolding fileBytes wordBytes used
-file-size t e m = omega (arith, rows-size (take (t .n) (t .rows)), length-take-le (t .n) (t .rows) (omega arith))
+unfolding fileBytes wordBytes
+file-size t e m = omega (arith, rows-size (used t), used-count t e m)
 
 -- ---- one row more at the end
 pub rows-more : (s : List ℕ) (at n : ℕ) → rowsFrom s at n ++ (rowFrom s (at + 6 * n) ∷ []) ≡ rowsFrom s at (suc n)

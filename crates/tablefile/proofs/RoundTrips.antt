@@ -6,17 +6,17 @@ use Prim.Native.Nat.{ℕ, zero, suc, _+_, _-_, _*_, _/_, _%_, _≤_, _<_}
 use native.Mathlib.Omega.{arith}
 use native.Mathlib.Nat.{div-add-mod', ne-of-gt}
 use lib.ListN.{length, replicate, length-append, length-replicate}
-use lib.Seq.{take-at, length-take-le}
+use lib.Seq.{take-at}
 use Rattle.refusal.specs.declared.Refusal.{Refusal}
 use Rattle.refusal.specs.declared.Refusal.the-variants.{None}
 use Rattle.refusal.proofs.Order.{passes, none-first, none-later}
 use Rattle.table.specs.declared.Row.{Row}
 use Rattle.table.specs.declared.Table.{Table}
 use Rattle.table.specs.Rows.{used, blank}
-use Rattle.table.proofs.Check.{Accepted, accepted-rows}
+use Rattle.table.proofs.Check.{used-count}
 use Rattle.reserve.specs.Check.{tableRefusal}
-use Rattle.reserve.proofs.Verdict.{refusal-past}
-use Rattle.tablefile.specs.Layout.{follow, wordBytes, rowBytes, rowsBytes, fileBytes, countByte, wordAt, rowFrom, rowsFrom, padded, tableFrom}
+use Rattle.reserve.proofs.Verdict.{table-accepted, refusal-past}
+use Rattle.tablefile.specs.Layout.{lengthFor, wordBytes, rowBytes, rowsBytes, fileBytes, countByte, wordAt, rowFrom, rowsFrom, padded, tableFrom}
 use Rattle.tablefile.specs.Answers.{headRefusal, fileRefusal, handsBack, readAs}
 use Rattle.tablefile.specs.RoundTrips.{Places, Bytes, zeroed}
 use Rattle.tablefile.proofs.FileLayout.{rows-count, file-size, rows-shift}
@@ -48,21 +48,16 @@ used-padded n rs e = take-at rs (replicate (16 - n) blank) n e
 pub padded-places : (n : ℕ) (rs : List Row) → length rs ≡ n → n ≤ 16 → length (padded n rs) ≡ 16
 padded-places n rs e m = simp (length-append, length-replicate) (omega arith)
 
-accepted : (t : Table) → tableRefusal t ≡ None → Accepted t
-unfolding tableRefusal
-accepted t a = accepted-rows t (none-first _ _ a)
-
-pub accepted-few : (t : Table) → tableRefusal t ≡ None → t .n ≤ 16
-accepted-few t a = accepted t a .few
-
 module _ (t : Table) (places : Places t) (a : tableRefusal t ≡ None) where
-  used-count : length (used t) ≡ t .n
-  unfolding used
-  used-count = length-take-le (t .n) (t .rows) (omega (arith, accepted-few t a))
+  few : t .n ≤ 16
+  few = table-accepted t a .few
+
+  count : length (used t) ≡ t .n
+  count = used-count t places few
 
   used-zeroed : used (zeroed t) ≡ used t
   unfolding zeroed
-  used-zeroed = used-padded (t .n) (used t) used-count
+  used-zeroed = used-padded (t .n) (used t) count
 
   zeroed-accepted : tableRefusal (zeroed t) ≡ None
   unfolding zeroed
@@ -72,15 +67,15 @@ module _ (t : Table) (places : Places t) (a : tableRefusal t ≡ None) where
   file-head : headRefusal (fileBytes t) ≡ None
   unfolding fileBytes wordBytes wordAt
   file-head =
-      let size = file-size t places (accepted-few t a) in
-      let word : wordAt (fileBytes t) 0 ≡ follow (t .n) = div-add-mod' (follow (t .n)) 256 in
-      sym (head-none (fileBytes t) (omega arith) (follow (t .n)) (sym word) (omega arith) 1 refl refl (t .n) refl (ne-of-gt (accepted t a .some)) (accepted-few t a) refl)
+      let size = file-size t places few in
+      let word : wordAt (fileBytes t) 0 ≡ lengthFor (t .n) = div-add-mod' (lengthFor (t .n)) 256 in
+      sym (head-none (fileBytes t) (omega arith) (lengthFor (t .n)) (sym word) (omega arith) 1 refl refl (t .n) refl (ne-of-gt (table-accepted t a .some)) few refl)
 
   file-rows : rowsFrom (fileBytes t) 4 (t .n) ≡ used t
   unfolding fileBytes wordBytes
   file-rows =
-      rows-shift (wordBytes (follow (t .n)) ++ (1 ∷ t .n ∷ [])) (rowsBytes (used t)) (t .n) 4 0 refl
-      ∙ ap (rowsFrom (rowsBytes (used t)) 0) (sym used-count)
+      rows-shift (wordBytes (lengthFor (t .n)) ++ (1 ∷ t .n ∷ [])) (rowsBytes (used t)) (t .n) 4 0 refl
+      ∙ ap (rowsFrom (rowsBytes (used t)) 0) (sym count)
       ∙ rows-back (used t)
 
   file-table : tableFrom (fileBytes t) ≡ zeroed t
@@ -132,8 +127,8 @@ file-back (x₀ ∷ x₁ ∷ x₂ ∷ []) b h = absurd (omega (arith, h .whole))
 file-back (x₀ ∷ x₁ ∷ x₂ ∷ x₃ ∷ s) b h =
     let l : length s ≡ 6 * x₃ = omega (arith, h .length-field, h .size) in
     let v : x₂ ≡ 1 = h .version in
-    let hi : follow x₃ / 256 ≡ x₀ = omega (arith, b 1, h .size) in
-    let lo : follow x₃ % 256 ≡ x₁ = omega (arith, b 1, h .size) in
+    let hi : lengthFor x₃ / 256 ≡ x₀ = omega (arith, b 1, h .size) in
+    let lo : lengthFor x₃ % 256 ≡ x₁ = omega (arith, b 1, h .size) in
     let file = x₀ ∷ x₁ ∷ x₂ ∷ x₃ ∷ s in
     let r : rowsBytes (used (tableFrom file)) ≡ s =
     ap rowsBytes (used-padded x₃ (rowsFrom file 4 x₃) (rows-count file 4 x₃) ∙ rows-shift (x₀ ∷ x₁ ∷ x₂ ∷ x₃ ∷ []) s x₃ 4 0 refl)

@@ -16,7 +16,7 @@ use Rattle.table.specs.Rows.{used, blank}
 use Rattle.reserve.specs.Check.{tableCheck}
 use Rattle.reserve.proofs.Ready.{few}
 use Rattle.reserve.proofs.Verdict.{table-ready}
-use Rattle.tablefile.specs.Layout.{follow, wordBytes, rowBytes, rowsBytes, fileBytes}
+use Rattle.tablefile.specs.Layout.{lengthFor, wordBytes, rowBytes, rowsBytes, fileBytes}
 use Rattle.tablefile.proofs.FileLayout.{rows-size, file-size, bytes-more}
 
 -- ---- a word and a row
@@ -81,10 +81,10 @@ module _ (t : Table) (checked : Checked) (e : checked ≡ tableCheck t) (d : che
   pub write-few : t .n ≤ 16
   write-few = few (table-ready t checked e d)
 
-  pub write-size : length (t .rows) ≡ 16 → follow (t .n) + 2 ≡ length (fileBytes t)
+  pub write-size : length (t .rows) ≡ 16 → lengthFor (t .n) + 2 ≡ length (fileBytes t)
   write-size l = omega (arith, file-size t l write-few)
 
-pub file-put : (t : Table) (l a o : List ℕ) → a ≡ sets l 0 (wordBytes (follow (t .n))) → o ≡ sets (set (set a 2 1) 3 (t .n)) 4 (rowsBytes (used t))
+pub file-put : (t : Table) (l a o : List ℕ) → a ≡ sets l 0 (wordBytes (lengthFor (t .n))) → o ≡ sets (set (set a 2 1) 3 (t .n)) 4 (rowsBytes (used t))
     → o ≡ sets l 0 (fileBytes t)
 unfolding fileBytes wordBytes
 file-put t l a o e f = f ∙ ap (λ (y : List ℕ). sets (set (set y 2 1) 3 (t .n)) 4 (rowsBytes (used t))) e

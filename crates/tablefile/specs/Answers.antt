@@ -1,6 +1,6 @@
 -- The refusals of a table file in document 01's order, and the answer of a reading.
 -- Assumes nothing: these are definitions.
-use Prim.Native.Nat.{ℕ, _+_}
+use Prim.Native.Nat.{ℕ}
 use mathlib.Core.Bool.{cond, not, _||_}
 use mathlib.Core.List.{List}
 use lib.Dec.{ltb, eqb}
@@ -12,15 +12,15 @@ use Rattle.table.specs.declared.Table.{Table}
 use Rattle.table.specs.Rows.{blank}
 use Rattle.reserve.specs.Check.{tableRefusal}
 use Rattle.tablefile.specs.declared.Reading.{Reading}
-use Rattle.tablefile.specs.Layout.{follow, lengthField, versionByte, countByte, tableFrom}
+use Rattle.tablefile.specs.Layout.{lengthFor, lengthField, following, versionByte, countByte, tableFrom}
 
 -- 'Order for a file: 12 (under 4 bytes, or the length field differs from the bytes that follow), 13, 1, 2, 12 (length not 2+6n)'
 unfoldable pub headRefusal : List ℕ → Refusal
 headRefusal s =
-    orElse (given (ltb (length s) 4 || not (eqb (lengthField s + 2) (length s))) Size)
+    orElse (given (ltb (length s) 4 || not (eqb (lengthField s) (following s))) Size)
     (orElse (given (not (eqb (versionByte s) 1)) Version)
     (orElse (given (eqb (countByte s) 0) Empty)
-    (orElse (given (ltb 16 (countByte s)) Many) (given (not (eqb (lengthField s) (follow (countByte s)))) Size))))
+    (orElse (given (ltb 16 (countByte s)) Many) (given (not (eqb (lengthField s) (lengthFor (countByte s)))) Size))))
 
 -- 'then rows from the first, in each row 3, 4, 5, then 6, then 7': those of the table read, whose 1 and 2 have been asked
 unfoldable pub fileRefusal : List ℕ → Refusal

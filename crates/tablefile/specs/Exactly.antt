@@ -3,20 +3,20 @@
 use mathlib.Core.Path.{_≡_}
 use mathlib.Core.Logic.{_⊎_, _≢_}
 use mathlib.Core.List.{List}
-use Prim.Native.Nat.{ℕ, _+_, _≤_, _<_}
+use Prim.Native.Nat.{ℕ, _≤_, _<_}
 use lib.ListN.{length}
 use Rattle.refusal.specs.declared.Refusal.{Refusal}
 use Rattle.refusal.specs.declared.Refusal.the-variants.{None, Empty, Many, Zero, Long, Order, Cycle, Tight, Room, Record, Report, Stray, Size, Version}
 use Rattle.reserve.specs.Exactly.{Counted, TableGives}
-use Rattle.tablefile.specs.Layout.{follow, lengthField, versionByte, countByte, tableFrom}
+use Rattle.tablefile.specs.Layout.{lengthFor, lengthField, following, versionByte, countByte, tableFrom}
 
 -- 12, the first time: 'under 4 bytes, or the length field differs from the bytes that follow'
 abbrev pub Unmatched : List ℕ → Type 0
-Unmatched s = (length s < 4) ⊎ (lengthField s + 2 ≢ length s)
+Unmatched s = (length s < 4) ⊎ (lengthField s ≢ following s)
 
 -- that does not apply
 abbrev pub Matched : List ℕ → Type 0
-Matched s = (4 ≤ length s) × (lengthField s + 2 ≡ length s)
+Matched s = (4 ≤ length s) × (lengthField s ≡ following s)
 
 -- neither that nor 13 applies
 abbrev pub Versioned : List ℕ → Type 0
@@ -24,7 +24,7 @@ Versioned s = Matched s × (versionByte s ≡ 1)
 
 -- the length field says 2+6n
 abbrev pub RightLength : List ℕ → Type 0
-RightLength s = lengthField s ≡ follow (countByte s)
+RightLength s = lengthField s ≡ lengthFor (countByte s)
 
 -- neither of the two 12 nor 13 applies
 abbrev pub Framed : List ℕ → Type 0

@@ -2,14 +2,14 @@
 -- Assumes nothing: these are definitions.
 use Prim.Native.Nat.{ℕ, zero, suc, _+_, _-_, _*_, _/_, _%_}
 use mathlib.Core.List.{List, [], _∷_, _++_}
-use lib.ListN.{getD, replicate}
+use lib.ListN.{length, getD, replicate}
 use Rattle.table.specs.declared.Row.{Row}
 use Rattle.table.specs.declared.Table.{Table}
 use Rattle.table.specs.Rows.{used, blank}
 
--- 'The length must be 2+6n': how many bytes follow the first two in a file of n rows
-abbrev pub follow : ℕ → ℕ
-follow n = 2 + 6 * n
+-- 'The length must be 2+6n', of a file of n rows
+abbrev pub lengthFor : ℕ → ℕ
+lengthFor n = 2 + 6 * n
 
 -- ---- what stands in a file
 -- 'Big-endian': the high byte first
@@ -26,7 +26,7 @@ rowsBytes (r ∷ rs) = rowBytes r ++ rowsBytes rs
 
 -- 'Two bytes: the number of bytes that follow them. One version byte, 1. One byte: the number of rows n. Then n rows'
 unfoldable pub fileBytes : Table → List ℕ
-fileBytes t = wordBytes (follow (t .n)) ++ (1 ∷ t .n ∷ rowsBytes (used t))
+fileBytes t = wordBytes (lengthFor (t .n)) ++ (1 ∷ t .n ∷ rowsBytes (used t))
 
 -- ---- what is read from bytes
 -- the byte at a place, 0 past the end
@@ -40,6 +40,10 @@ wordAt s at = byteAt s at * 256 + byteAt s (at + 1)
 -- 'Two bytes: the number of bytes that follow them.'
 abbrev pub lengthField : List ℕ → ℕ
 lengthField s = wordAt s 0
+
+-- how many bytes there are after those two
+abbrev pub following : List ℕ → ℕ
+following s = length s - 2
 
 -- 'One version byte'
 abbrev pub versionByte : List ℕ → ℕ

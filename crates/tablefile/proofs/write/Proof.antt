@@ -1,10 +1,13 @@
 -- `tablefile::write` meets its contract.
 -- Assumes nothing.
 use native.Mathlib.Omega.{arith}
-use lib.ListN.{length-set}
+use Prim.Native.Nat.{_+_, _<_}
+use lib.ListN.{length, length-set}
+use denote.Ref.{now}
 use mathlib.Core.Path.{_∙_}
 use Rattle.table.proofs.Lists.{long}
 use Rattle.reserve.proofs.HandedOut.{handed-refused, kept-refused, handed-short, kept-short, handed-none, set-over}
+use Rattle.tablefile.specs.Layout.{lengthFor}
 use Rattle.tablefile.proofs.WriteCases.{write-few, write-size, file-put}
 use borrow.Author.Needs.{needs}
 use Rattle.tablefile.proofs.write.Statement.{statement}
@@ -32,7 +35,10 @@ add-size : tie.Need-add-size
 add-size c = search needs
 
 returns : tie.Need-returns
-returns c = (search (handed-short, write-size, long), search (kept-short, write-size, long))
+returns c =
+    let args = c .before .before .before .before .before .args in
+    let short : length (now (args .out)) < lengthFor (args .t .n) + 2 = omega arith in
+    (search (handed-short, write-size, long, short), search (kept-short, write-size, long, short))
 
 put-word-requires : tie.Need-put-word-requires
 put-word-requires c κs = search needs
