@@ -2,13 +2,15 @@
 -- Assumes nothing.
 use mathlib.Core.Path.{_≡_, refl, sym, ap, _∙_}
 use mathlib.Core.Logic.{⊎-elim}
-use mathlib.Core.Bool.{Bool, _&&_}
+use mathlib.Core.Bool.{Bool, cond, _&&_}
 use mathlib.Core.List.{List, _++_}
-use Prim.Native.Nat.{ℕ, suc, _+_, _-_, _≤_, _<_}
+use Prim.Native.Nat.{ℕ, suc, _+_, _-_, _≤_, _<_, min}
 use native.Mathlib.Nat.{eq-or-lt-of-le}
 use native.Mathlib.Omega.{arith}
+use lib.Dec.{ltb}
 use lib.ListN.{getD, set, length, drop, length-set, length-append, length-drop, List·getD-append}
 use lib.Seq.{getD-set-same, getD-set-other, getD-drop, getD-append-add, ext-getD}
+use borrow.Author.Tests.{lt-ltb, le-ltb}
 use Rattle.rule.specs.Slots.{some, firstRow}
 use Rattle.rule.specs.Rule.{holder, short, begins, lacks, tightRow}
 use Rattle.rule.specs.Sweep.{holders}
@@ -34,29 +36,46 @@ module _ (E K : ℕ → ℕ → ℕ) (n L : ℕ) where
   pub next-turn : {xs ys : List ℕ} {t c row low : ℕ} → Next xs t → 0 < t → Turned E K c n (t - 1) ys row low → Next ys (t - 1)
   next-turn g l u = record { within = omega (arith, g .within); coming = λ s e i r v. rw e (u .rests i r) }
 
-  -- ---- the lowest short row so far
-  abbrev pub Lacking : ℕ → ℕ → ℕ
+  -- ---- the holder of the slot passed last, and the lowest short row so far, on the way down to c
+  abbrev Lacking : ℕ → ℕ → ℕ
   Lacking c t = firstRow (λ i. some (λ s. begins E K c i s && short E K i s) t (L - t)) n
 
-  pub lacking-start : (c : ℕ) → 0 ≡ Lacking c L
+  lacking-none : (c t : ℕ) → L ≤ t → Lacking c t ≡ 0
   unfolding some
-  lacking-start c = let z : L - L ≡ 0 = omega arith in rw z (sym (found-none _ n (λ i l. refl)))
+  lacking-none c t l = let z : L - t ≡ 0 = omega arith in rw z (found-none _ n (λ i l. refl))
 
-  pub lacking-turn : {ys : List ℕ} {t c row here low low' : ℕ} → t ≤ L → 0 < t → Turned E K c n (t - 1) ys row here → low ≡ Lacking c t → low' ≡ lowerOf here low
-      → low' ≡ Lacking c (t - 1)
+  pub record Found (c t row low : ℕ) : Type 0 where
+    pub not-past : min c L ≤ t
+    pub holds : row ≡ cond (ltb t L) (holder E K n t) 0
+    pub lowest : low ≡ Lacking c t
+
+  pub found-start : (c : ℕ) → Found c L 0 0
+  found-start c = record { not-past = omega arith; holds = rw (le-ltb L L (omega arith)); lowest = sym (lacking-none c L (omega arith)) }
+
+  pub found-turn : {ys : List ℕ} {t c last low row here low' : ℕ} → t ≤ L → c < t → Found c t last low → Turned E K c n (t - 1) ys row here → low' ≡ lowerOf here low
+      → Found c (t - 1) row low'
   unfolding some
-  lacking-turn {ys} {t} {c} {row} {here} {low} l p u e h =
+  found-turn {ys} {t} {c} {last} {low} {row} {here} l p g u h =
       let a : L - (t - 1) ≡ suc (L - t) = omega arith in
       let b : suc (t - 1) ≡ t = omega arith in
       let P : ℕ → Bool = λ i. begins E K c i (t - 1) && short E K i (t - 1) in
       let Q : ℕ → Bool = λ i. some (λ s. begins E K c i s && short E K i s) t (L - t) in
-      let k : lowerOf here low ≡ lowerOf (firstRow P n) (firstRow Q n) = rw (u .lowest, e) in
-      h ∙ k ∙ sym (rw (a, b) (first-of-two P Q n))
+      let k : lowerOf here low ≡ lowerOf (firstRow P n) (firstRow Q n) = rw (u .lowest, g .lowest) in
+      record {
+        not-past = omega (arith, g .not-past);
+        holds = rw (lt-ltb (t - 1) L (omega arith)) (u .holds);
+        lowest = h ∙ k ∙ sym (rw (a, b) (first-of-two P Q n));
+      }
 
-  -- at the first usable slot: the row that is named
-  pub lacking-end : (c : ℕ) → Lacking c c ≡ tightRow E K c L n
+  -- at c, or at the cycle's end where c is past it
+  pub found-end : {c t row low : ℕ} → t ≤ L → t ≤ c → Found c t row low → (row ≡ cond (ltb c L) (holder E K n c) 0) × (low ≡ tightRow E K c L n)
   unfolding tightRow lacks
-  lacking-end c = refl
+  found-end {c} {t} l u g =
+      ⊎-elim (λ (v : c < L). let q : t ≡ c = omega (arith, g .not-past) in (rw q at (g .holds), rw q at (g .lowest)))
+      (λ (v : L ≤ c).
+      let q : L ≤ t = omega (arith, g .not-past) in
+      (g .holds ∙ rw (le-ltb t L q, le-ltb c L v), g .lowest ∙ lacking-none c t q ∙ sym (lacking-none c c v)))
+      (side c L)
 
   -- ---- the list of holders so far, over what was in the lent bytes
   pub record Filled (old out : List ℕ) (t : ℕ) : Type 0 where

@@ -1,5 +1,6 @@
--- When each refusal of a table given as rows is given: the column 'Given exactly when' of document 01's 'Numbers of refusal', for 1 to 7 and for an acceptance, in 01's order.
--- What specs/Exactly says of a refusal brings it about (`given-if`), and of every table it says something of some refusal (`some-gives`): so each is given exactly when.
+-- When each refusal of a table given as rows is given: the column 'Given exactly when' of document 01's 'Numbers of refusal', for 1 to 7, for 8 where a list is handed out,
+-- and for an acceptance, in 01's order. What specs/Exactly says of a refusal brings it about (the laws `-if`), and of every table it says something of some refusal (the laws
+-- `some-`): so each is given exactly when.
 -- Assumes nothing.
 use mathlib.Core.Path.{_≡_, refl, sym, ap, _∙_, subst}
 use mathlib.Core.Logic.{_⊎_, inl, inr, _↔_, ⊎-elim}
@@ -25,7 +26,7 @@ use Rattle.table.specs.Check.{isZero, isLong, faultOf, faultsOf, rowsRefusal}
 use Rattle.rule.proofs.Tests.{split, side, never, false-if, or-cases, or-left, or-right}
 use Rattle.reserve.specs.Check.{tightOf, tableRefusal}
 use Rattle.reserve.specs.HandOut.{handedRefusal}
-use Rattle.reserve.specs.Exactly.{ZeroRow, LongRow, EarlyRow, ClearRow, Reached, AllClear, Counted, RowGives, TableGives, HandedGives}
+use Rattle.reserve.specs.Exactly.{ZeroRow, LongRow, EarlyRow, ClearRow, Reached, AllClear, Counted, RowGives, RowsGives, TableGives, HandedGives}
 use Rattle.reserve.proofs.Verdict.{after-rows}
 use Rattle.reserve.proofs.Demand2.{tight-exactly, accepted-exactly}
 
@@ -135,17 +136,21 @@ module _ (rs : List Row) where
   unfolding orElse
   faults-row i f r e a = onward-from i (omega (arith, r .row)) (r .before) ∙ onward-step i (r .row) ∙ rw (e, a)
 
--- ---- what is said of each refusal brings it about
+-- ---- where each thing that `Gives` says of a refusal brings it about, and it says something of some refusal, each is given exactly when it says so
+pub exact : {r : Refusal} (Gives : Refusal → Type 0) → ((f : Refusal) → Gives f → r ≡ f) → (f : Refusal) × Gives f → (f : Refusal) → (r ≡ f) ↔ Gives f
+exact Gives brings some f = (λ e. subst Gives (sym (brings (some .0) (some .1)) ∙ e) (some .1), brings f)
+
 module _ (t : Table) where
   abbrev rs : List Row
   rs = used t
 
-  given-empty : t .n ≡ 0 → tableRefusal t ≡ Empty
-  unfolding tableRefusal rowsRefusal orElse
+  -- ---- 1 to 6: what is said of each refusal brings it about
+  given-empty : t .n ≡ 0 → rowsRefusal t ≡ Empty
+  unfolding rowsRefusal orElse
   given-empty e = simp (eq-eqb _ _ e)
 
-  given-many : 16 < t .n → tableRefusal t ≡ Many
-  unfolding tableRefusal rowsRefusal orElse
+  given-many : 16 < t .n → rowsRefusal t ≡ Many
+  unfolding rowsRefusal orElse
   given-many l = simp (ne-eqb (t .n) 0 (λ z. omega arith), lt-ltb _ _ l)
 
   -- neither 1 nor 2
@@ -153,40 +158,38 @@ module _ (t : Table) where
   unfolding rowsRefusal orElse
   counted c = simp (ne-eqb (t .n) 0 (λ z. omega arith), le-ltb 16 (t .n) (c .1))
 
-  given-row : {k : ℕ} {What : ℕ → Type 0} (f : ℕ → Refusal) → accepted (f k) ≡ false → ((i : ℕ) → What i → fault rs i ≡ f (suc i)) → RowGives t k What → tableRefusal t ≡ f k
-  unfolding tableRefusal orElse
+  given-row : {k : ℕ} {What : ℕ → Type 0} (f : ℕ → Refusal) → accepted (f k) ≡ false → ((i : ℕ) → What i → fault rs i ≡ f (suc i)) → RowGives t k What → rowsRefusal t ≡ f k
+  unfolding orElse
   given-row {k} f a h g =
-      rw (counted (g .counted), faults-row rs (g .i) (f k) (g .reached) (h (g .i) (g .what) ∙ ap f (sym (g .named))) a, a, a)
+      rw (counted (g .counted), faults-row rs (g .i) (f k) (g .reached) (h (g .i) (g .what) ∙ ap f (sym (g .named))) a, a)
 
   module _ (c : Counted t) (s : AllClear rs) where
-    given-cycle : 4096 < cycleOf rs → tableRefusal t ≡ Cycle
-    unfolding tableRefusal orElse
+    given-cycle : 4096 < cycleOf rs → rowsRefusal t ≡ Cycle
+    unfolding orElse
     given-cycle l = rw (counted c, faults-none rs s, lt-ltb 4096 (cycleOf rs) l)
 
-    -- none of 1 to 6
-    rows-none : cycleOf rs ≤ 4096 → rowsRefusal t ≡ None
+    given-none : cycleOf rs ≤ 4096 → rowsRefusal t ≡ None
     unfolding orElse
-    rows-none l = rw (counted c, faults-none rs s, le-ltb 4096 (cycleOf rs) l)
+    given-none l = rw (counted c, faults-none rs s, le-ltb 4096 (cycleOf rs) l)
 
   -- nothing gives the variants that have no clause here
-  given-if : (f : Refusal) → TableGives t f → tableRefusal t ≡ f
-  unfolding TableGives
-  given-if None g = accepted-exactly t (rows-none (g .0) (g .1) (g .2)) .1 (g .3)
-  given-if Empty g = given-empty g
-  given-if Many g = given-many g
-  given-if (Zero k) g = given-row Zero refl (fault-zero rs) g
-  given-if (Long k) g = given-row Long refl (λ i w. fault-long rs i (w .0) (w .1)) g
-  given-if (Order k) g = given-row Order refl (λ i w. fault-order rs i (w .0) (w .1) (w .2)) g
-  given-if Cycle g = given-cycle (g .0) (g .1) (g .2)
-  given-if (Tight k) g = tight-exactly t (rows-none (g .0) (g .1) (g .2)) (g .3 .0) .1 (g .3 .2) ∙ ap Tight (sym (g .3 .1))
+  rows-if : (f : Refusal) → RowsGives t f → rowsRefusal t ≡ f
+  unfolding RowsGives
+  rows-if None g = given-none (g .0) (g .1) (g .2)
+  rows-if Empty g = given-empty g
+  rows-if Many g = given-many g
+  rows-if (Zero k) g = given-row Zero refl (fault-zero rs) g
+  rows-if (Long k) g = given-row Long refl (λ i w. fault-long rs i (w .0) (w .1)) g
+  rows-if (Order k) g = given-row Order refl (λ i w. fault-order rs i (w .0) (w .1) (w .2)) g
+  rows-if Cycle g = given-cycle (g .0) (g .1) (g .2)
 
-  -- ---- of every table one of these things can be said
-  abbrev SomeGives : Type 0
-  SomeGives = (f : Refusal) × TableGives t f
+  -- ---- and of every table one of these things can be said
+  abbrev SomeRows : Type 0
+  SomeRows = (f : Refusal) × RowsGives t f
 
   module _ (c : Counted t) where
-    row-gives : (i : ℕ) → Reached rs i → ClearRow rs i ⊎ SomeGives
-    unfolding TableGives
+    row-gives : (i : ℕ) → Reached rs i → ClearRow rs i ⊎ SomeRows
+    unfolding RowsGives
     row-gives i r =
         ⊎-elim (λ z. inr (Zero (suc i), record { counted = c; i = i; named = refl; reached = r; what = z }))
         (λ z.
@@ -196,42 +199,74 @@ module _ (t : Table) where
         (λ e. inl (record { not-zero = z; not-long = l; not-early = e })) (early-or rs i)) (long-or (rowAt rs i)))
         (zero-or (rowAt rs i))
 
-    rows-give : (m : ℕ) → m ≤ length rs → ((k : ℕ) → k < m → ClearRow rs k) ⊎ SomeGives
+    rows-give : (m : ℕ) → m ≤ length rs → ((k : ℕ) → k < m → ClearRow rs k) ⊎ SomeRows
     rows-give zero l = inl (below-none (ClearRow rs))
     rows-give (suc m) l = ⊎-elim (λ s. ⊎-elim (λ here. inl (more s here)) inr (row-gives m (record { row = l; before = s }))) inr (rows-give m (omega arith))
       where
         more : ((k : ℕ) → k < m → ClearRow rs k) → ClearRow rs m → (k : ℕ) → k < suc m → ClearRow rs k
         more s here k u = ⊎-elim (λ (v : k < m). s k v) (λ (v : m ≤ k). let q : k ≡ m = omega arith in rw q here) (side k m)
 
-    module _ (s : AllClear rs) where
-      rule-gives : cycleOf rs ≤ 4096 → SomeGives
-      unfolding TableGives
-      rule-gives l = go (tightOf rs) (after-rows t e)
-        where
-          e : rowsRefusal t ≡ None
-          e = rows-none c s l
+    cycle-gives : AllClear rs → SomeRows
+    unfolding RowsGives
+    cycle-gives s = ⊎-elim (λ (l : 4096 < cycleOf rs). (Cycle, (c, s, l))) (λ (l : cycleOf rs ≤ 4096). (None, (c, s, l))) (side 4096 (cycleOf rs))
 
-          go : (k : ℕ) → given (ltb 0 k) (Tight k) ≡ tableRefusal t → SomeGives
-          go zero d = (None, (c, s, l, accepted-exactly t e .0 (sym d)))
-          go (suc i) d = (Tight (suc i), (c, s, l, (i, refl, tight-exactly t e i .0 (sym (rw (lt-ltb 0 (suc i) (omega arith)) at d)))))
-
-      sound-gives : SomeGives
-      unfolding TableGives
-      sound-gives = ⊎-elim (λ (l : 4096 < cycleOf rs). (Cycle, (c, s, l))) rule-gives (side 4096 (cycleOf rs))
-
-    counted-gives : SomeGives
-    counted-gives = ⊎-elim sound-gives (λ g. g) (rows-give (length rs) (omega arith))
-
-  some-gives : SomeGives
-  unfolding TableGives
-  some-gives =
+  some-rows : SomeRows
+  unfolding RowsGives
+  some-rows =
       ⊎-elim (λ (e : t .n ≡ 0). (Empty, e))
-      (λ (p : 0 < t .n). ⊎-elim (λ (l : 16 < t .n). (Many, l)) (λ (l : t .n ≤ 16). counted-gives (p, l)) (side 16 (t .n)))
+      (λ (p : 0 < t .n).
+      ⊎-elim (λ (l : 16 < t .n). (Many, l)) (λ (l : t .n ≤ 16). ⊎-elim (cycle-gives (p, l)) (λ g. g) (rows-give (p, l) (length rs) (omega arith))) (side 16 (t .n)))
       (eq-zero-or-pos (t .n))
 
--- 'Given exactly when'
+  -- ---- the same of 1 to 7
+  -- one of 1 to 6
+  given-rows : (f : Refusal) → accepted f ≡ false → RowsGives t f → tableRefusal t ≡ f
+  unfolding tableRefusal orElse
+  given-rows f a g = rw (rows-if f g, a)
+
+  given-if : (f : Refusal) → TableGives t f → tableRefusal t ≡ f
+  unfolding TableGives
+  given-if None g = accepted-exactly t (rows-if None (g .0)) .1 (g .1)
+  given-if Empty g = given-rows Empty refl g
+  given-if Many g = given-rows Many refl g
+  given-if (Zero k) g = given-rows (Zero k) refl g
+  given-if (Long k) g = given-rows (Long k) refl g
+  given-if (Order k) g = given-rows (Order k) refl g
+  given-if Cycle g = given-rows Cycle refl g
+  given-if (Tight k) g = tight-exactly t (rows-if None (g .0)) (g .1 .0) .1 (g .1 .2) ∙ ap Tight (sym (g .1 .1))
+
+  abbrev SomeGives : Type 0
+  SomeGives = (f : Refusal) × TableGives t f
+
+  -- where 1 to 6 accept
+  rule-gives : RowsGives t None → SomeGives
+  unfolding TableGives
+  rule-gives g = go (tightOf rs) (after-rows t e)
+    where
+      e : rowsRefusal t ≡ None
+      e = rows-if None g
+
+      go : (k : ℕ) → given (ltb 0 k) (Tight k) ≡ tableRefusal t → SomeGives
+      go zero d = (None, (g, accepted-exactly t e .0 (sym d)))
+      go (suc i) d = (Tight (suc i), (g, (i, refl, tight-exactly t e i .0 (sym (rw (lt-ltb 0 (suc i) (omega arith)) at d)))))
+
+  some-gives : (f : Refusal) → RowsGives t f → SomeGives
+  unfolding TableGives RowsGives
+  some-gives None g = rule-gives g
+  some-gives Empty g = (Empty, g)
+  some-gives Many g = (Many, g)
+  some-gives (Zero k) g = (Zero k, g)
+  some-gives (Long k) g = (Long k, g)
+  some-gives (Order k) g = (Order k, g)
+  some-gives Cycle g = (Cycle, g)
+
+-- 'Given exactly when': 1 to 6
+pub rows-gives : (t : Table) (f : Refusal) → (rowsRefusal t ≡ f) ↔ RowsGives t f
+rows-gives t = exact (RowsGives t) (rows-if t) (some-rows t)
+
+-- 1 to 7
 pub table-gives : (t : Table) (f : Refusal) → (tableRefusal t ≡ f) ↔ TableGives t f
-table-gives t f = (λ e. let g : SomeGives t = some-gives t in subst (TableGives t) (sym (given-if t (g .0) (g .1)) ∙ e) (g .1), given-if t f)
+table-gives t = exact (TableGives t) (given-if t) (some-gives t (some-rows t .0) (some-rows t .1))
 
 -- and one is given at most
 pub gives-one : (t : Table) (f g : Refusal) → TableGives t f → TableGives t g → f ≡ g
@@ -264,10 +299,7 @@ module _ (t : Table) (new old : List ℕ) where
   handed-if Cycle g = handed-table Cycle refl g
   handed-if (Tight k) g = handed-table (Tight k) refl g
 
-  abbrev SomeHanded : Type 0
-  SomeHanded = (f : Refusal) × HandedGives t new old f
-
-  some-handed : (f : Refusal) → TableGives t f → SomeHanded
+  some-handed : (f : Refusal) → TableGives t f → (f : Refusal) × HandedGives t new old f
   unfolding HandedGives TableGives
   some-handed None g = ⊎-elim (λ (l : length old < length new). (Room, (g, l))) (λ (l : length new ≤ length old). (None, (g, l))) (side (length old) (length new))
   some-handed Empty g = (Empty, g)
@@ -279,10 +311,4 @@ module _ (t : Table) (new old : List ℕ) where
   some-handed (Tight k) g = (Tight k, g)
 
   pub handed-gives : (f : Refusal) → (handedRefusal t new old ≡ f) ↔ HandedGives t new old f
-  handed-gives f = (to, handed-if f)
-    where
-      to : handedRefusal t new old ≡ f → HandedGives t new old f
-      to e =
-          let table : SomeGives t = some-gives t in
-          let g : SomeHanded = some-handed (table .0) (table .1) in
-          subst (HandedGives t new old) (sym (handed-if (g .0) (g .1)) ∙ e) (g .1)
+  handed-gives = exact (HandedGives t new old) handed-if (some-handed (tableRefusal t) (table-gives t (tableRefusal t) .0 refl))

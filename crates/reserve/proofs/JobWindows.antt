@@ -1,18 +1,22 @@
 -- The jobs of a table's rows and the windows that begin from slot 0 on are the same.
 -- Assumes nothing.
 use mathlib.Core.Path.{_≡_, sym, ap, _∙_}
+use mathlib.Core.Logic.{⊎-elim}
 use mathlib.Core.Bool.{Bool, true}
 use mathlib.Core.List.{List}
 use Prim.Native.Nat.{ℕ, suc, _/_, _<_}
 use native.Mathlib.Omega.{arith}
+use lib.Dec.{eqb}
 use lib.ListN.{length}
+use borrow.Author.Tests.{eqb-true}
 use Rattle.table.specs.declared.Row.{Row}
 use Rattle.table.specs.Rows.{rowAt, cycleOf}
-use Rattle.table.specs.Windows.{opens, closes}
-use Rattle.table.proofs.Windows.{end-opens, opens-first, starts-opens, start-opens, start-wants, opens-within}
+use Rattle.table.specs.Windows.{opens, closes, starts}
+use Rattle.table.proofs.Windows.{start-zero, end-opens, opens-first, starts-opens, start-opens, start-wants, opens-within}
 use Rattle.table.proofs.Cycle.{cycle-multiple}
 use Rattle.rule.specs.Rule.{begins, held, between, lacks}
 use Rattle.rule.specs.Words.{Follows}
+use Rattle.rule.proofs.Tests.{or-cases, or-right}
 use Rattle.rule.proofs.Facts.{short-few, few-short}
 use Rattle.rule.proofs.Lacks.{lacks-at, at-lacks}
 use Rattle.reserve.specs.Tables.{ends, whole}
@@ -34,7 +38,8 @@ module _ (rs : List Row) (good : AllGood rs) (i : ℕ) (l : i < length rs) where
     job-claim = start-wants r (good i l) (opens r j) (starts-opens r (good i l) j (c .0))
 
     job-begins : begins (ends rs) (whole rs) 0 i (opens r j) ≡ true
-    job-begins = begins-is rs good (whole rs) i (opens r j) l ∙ starts-opens r (good i l) j (c .0)
+    job-begins =
+        begins-is rs good (whole rs) 0 i (opens r j) l (omega arith) ∙ or-right (eqb (opens r j) 0) (starts r (opens r j)) (starts-opens r (good i l) j (c .0))
 
     job-within : opens r j < cycleOf rs
     job-within = omega (arith, opens-first r (good i l) j (c .0), c .1)
@@ -44,8 +49,13 @@ module _ (rs : List Row) (good : AllGood rs) (i : ℕ) (l : i < length rs) where
     abbrev job : ℕ
     job = suc (w / r .period)
 
+    starts-there : starts r w ≡ true
+    starts-there =
+        ⊎-elim (λ e. rw (eqb-true w 0 e) (start-zero r (good i l))) (λ e. e)
+        (or-cases (eqb w 0) (starts r w) (sym (begins-is rs good (whole rs) 0 i w l (omega arith)) ∙ b))
+
     opens-there : opens r job ≡ w
-    opens-there = sym (start-opens r (good i l) w (sym (begins-is rs good (whole rs) i w l) ∙ b))
+    opens-there = sym (start-opens r (good i l) w starts-there)
 
     in-cycle : InCycle rs i job
     in-cycle = (omega arith, opens-within r (good i l) (cycleOf rs) job (cycle-multiple rs i l) (omega arith) (rw opens-there u))

@@ -1,13 +1,16 @@
 pub mod Tables
+pub mod FreshClaims
 pub mod Turn
 pub mod Ready
 pub mod Pass
 pub mod Lower
 pub mod Down
 pub mod Sweeps
+pub mod Alternates
 pub mod FirstSlots
 pub mod Scanning
 pub mod Verdict
+pub mod FromClock
 pub mod HandedOut
 pub mod JobWindows
 pub mod Demand2

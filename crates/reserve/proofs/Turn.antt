@@ -2,9 +2,9 @@
 -- Assumes nothing.
 use mathlib.Core.Path.{_≡_, refl, sym, ap, _∙_}
 use mathlib.Core.Logic.{⊎-elim}
-use mathlib.Core.Bool.{Bool, true, cond, _&&_}
+use mathlib.Core.Bool.{Bool, true, false, cond, _&&_, _||_}
 use mathlib.Core.List.{List}
-use Prim.Native.Nat.{ℕ, suc, _+_, _-_, _≤_, _<_}
+use Prim.Native.Nat.{ℕ, suc, _+_, _-_, _%_, _≤_, _<_}
 use native.Mathlib.Nat.{eq-or-lt-of-le}
 use native.Mathlib.Numerals.{add-one}
 use native.Mathlib.Omega.{arith}
@@ -14,7 +14,7 @@ use lib.Seq.{getD-set-same, getD-set-other}
 use borrow.Author.Count.{below-none, below-more}
 use borrow.Author.Tests.{eq-eqb, ne-eqb, lt-ltb, ltb-true}
 use Rattle.table.specs.declared.Row.{Row}
-use Rattle.table.specs.Windows.{windowEnd, wants}
+use Rattle.table.specs.Windows.{windowEnd, wants, starts}
 use Rattle.rule.specs.Slots.{unit, orRow, firstRow}
 use Rattle.rule.specs.Rule.{held, takes, holder, short, begins, Windows, Claims}
 use Rattle.rule.specs.Sweep.{rem}
@@ -23,16 +23,37 @@ use Rattle.rule.proofs.Facts.{from, leaves-held, short-few, short-not}
 use Rattle.rule.proofs.FirstRow.{row-found, firstRow-suc}
 use Rattle.rule.proofs.Holders.{holder-free, free-holder, holder-suc}
 use Rattle.rule.proofs.Remainders.{met, unmet, taken-left, rem-step, rem-last, rem-short}
-use Rattle.reserve.specs.Turns.{Coming, Turned}
+use Rattle.reserve.specs.Turns.{claimAt, Coming, Turned}
 
--- ---- a window's last slot, as the code tells it
-module _ (r : Row) (t rest e : ℕ) (is-end : e ≡ windowEnd r t) where
-  pub arrived-last : e ≡ t + 1 → r .alternate ≡ cond (eqb (windowEnd r t) (suc t)) (wants r t) rest
-  unfolding wants
-  arrived-last h = simp (eq-eqb (windowEnd r t) (suc t) (omega arith))
+-- ---- a window's claim, its last slot and its first usable one, as the code tells them
+module _ (r : Row) (c units t e : ℕ) (is-end : e ≡ windowEnd r t) (k : ℕ) where
+  module _ (f : ℕ) (clock-end : f ≡ windowEnd r c) where
+    pub claim-left : e ≡ f → k ≡ units → k ≡ claimAt r c units t
+    claim-left h q = rw (eq-eqb (windowEnd r t) (windowEnd r c) (sym is-end ∙ h ∙ clock-end)) q
 
-  pub arrived-on : (e ≡ t + 1 → ⊥) → rest ≡ cond (eqb (windowEnd r t) (suc t)) (wants r t) rest
-  arrived-on h = simp (ne-eqb (windowEnd r t) (suc t) (λ q. h (omega arith)))
+    pub claim-whole : (e ≡ f → ⊥) → k ≡ r .alternate → k ≡ claimAt r c units t
+    unfolding wants
+    claim-whole h q = rw (ne-eqb (windowEnd r t) (windowEnd r c) (λ z. h (is-end ∙ z ∙ sym clock-end))) q
+
+  module _ (rest : ℕ) where
+    pub arrived-last : e ≡ t + 1 → k ≡ claimAt r c units t → k ≡ cond (eqb (windowEnd r t) (suc t)) (claimAt r c units t) rest
+    arrived-last h q = rw (eq-eqb (windowEnd r t) (suc t) (omega arith)) q
+
+    pub arrived-on : (e ≡ t + 1 → ⊥) → k ≡ rest → k ≡ cond (eqb (windowEnd r t) (suc t)) (claimAt r c units t) rest
+    arrived-on h q = rw (ne-eqb (windowEnd r t) (suc t) (λ z. h (omega arith))) q
+
+module _ (r : Row) (c t y : ℕ) where
+  pub short-clock : t ≡ c → ltb 0 y ≡ ((eqb t c || starts r t) && ltb 0 y)
+  short-clock h = simp (eq-eqb t c h)
+
+  module _ (h : t ≡ c → ⊥) where
+    pub short-start : t % r .period ≡ 0 → ltb 0 y ≡ ((eqb t c || starts r t) && ltb 0 y)
+    unfolding starts
+    short-start q = simp (ne-eqb t c h, eq-eqb (t % r .period) 0 q)
+
+    pub short-on : (t % r .period ≡ 0 → ⊥) → false ≡ ((eqb t c || starts r t) && ltb 0 y)
+    unfolding starts
+    short-on q = simp (ne-eqb t c h, ne-eqb (t % r .period) 0 q)
 
 -- ---- one row at one slot
 module _ {E K : ℕ → ℕ → ℕ} {n : ℕ} (win : Windows E n) (cl : Claims E K n) (i s : ℕ) (row : i < n) where

@@ -28,7 +28,7 @@ after-rows t e = passes (rowsRefusal t) (given (ltb 0 (tightOf (used t))) (Tight
 
 -- ---- the ways out of the check, after that of the rows
 module _ (t : Table) (rows : Checked) (e : rows ≡ rowsCheck t) where
-  is-refusal : rows .refusal ≡ rowsRefusal t
+  pub is-refusal : rows .refusal ≡ rowsRefusal t
   unfolding rowsCheck
   is-refusal = ap (λ (c : Checked). c .refusal) e
 

@@ -55,23 +55,40 @@ pub record RowGives (t : Table) (k : ℕ) (What : ℕ → Type 0) : Type 0 where
   pub reached : Reached (used t) i
   pub what : What i
 
--- the refusal is given exactly when
-unfoldable pub TableGives : Table → Refusal → Type 0
-TableGives t None =
-    Counted t × AllClear (used t) × (cycleOf (used t) ≤ 4096) × ((i j : ℕ) → i < length (used t) → ShortJob (used t) i j → ⊥)
+-- the refusal is given exactly when, of the entries that refuse a table by 1 to 6 alone
+unfoldable pub RowsGives : Table → Refusal → Type 0
+RowsGives t None = Counted t × AllClear (used t) × (cycleOf (used t) ≤ 4096)
 -- 1: 'n is 0'
-TableGives t Empty = t .n ≡ 0
+RowsGives t Empty = t .n ≡ 0
 -- 2: 'n is over 16'
-TableGives t Many = 16 < t .n
+RowsGives t Many = 16 < t .n
 -- 'in each row 3, 4, 5'
-TableGives t (Zero k) = RowGives t k (λ i. ZeroRow (rowAt (used t) i))
-TableGives t (Long k) = RowGives t k (λ i. (ZeroRow (rowAt (used t) i) → ⊥) × LongRow (rowAt (used t) i))
-TableGives t (Order k) = RowGives t k (λ i. (ZeroRow (rowAt (used t) i) → ⊥) × (LongRow (rowAt (used t) i) → ⊥) × EarlyRow (used t) i)
+RowsGives t (Zero k) = RowGives t k (λ i. ZeroRow (rowAt (used t) i))
+RowsGives t (Long k) = RowGives t k (λ i. (ZeroRow (rowAt (used t) i) → ⊥) × LongRow (rowAt (used t) i))
+RowsGives t (Order k) = RowGives t k (λ i. (ZeroRow (rowAt (used t) i) → ⊥) × (LongRow (rowAt (used t) i) → ⊥) × EarlyRow (used t) i)
 -- 'then 6': 'the cycle is over 4,096'
-TableGives t Cycle = Counted t × AllClear (used t) × (4096 < cycleOf (used t))
+RowsGives t Cycle = Counted t × AllClear (used t) × (4096 < cycleOf (used t))
+-- the others are not about rows and their cycle
+RowsGives t (Tight k) = ⊥
+RowsGives t Room = ⊥
+RowsGives t Record = ⊥
+RowsGives t Report = ⊥
+RowsGives t Stray = ⊥
+RowsGives t Size = ⊥
+RowsGives t Version = ⊥
+
+-- and of those that refuse it by 7 too
+unfoldable pub TableGives : Table → Refusal → Type 0
+TableGives t None = RowsGives t None × ((i j : ℕ) → i < length (used t) → ShortJob (used t) i j → ⊥)
+-- 1 to 6
+TableGives t Empty = RowsGives t Empty
+TableGives t Many = RowsGives t Many
+TableGives t (Zero k) = RowsGives t (Zero k)
+TableGives t (Long k) = RowsGives t (Long k)
+TableGives t (Order k) = RowsGives t (Order k)
+TableGives t Cycle = RowsGives t Cycle
 -- 'then 7': 'the reservation rule leaves a job short', and the first row with such a job is named
-TableGives t (Tight k) =
-    Counted t × AllClear (used t) × (cycleOf (used t) ≤ 4096) × ((i : ℕ) × (k ≡ suc i) × TightAt (used t) i)
+TableGives t (Tight k) = RowsGives t None × ((i : ℕ) × (k ≡ suc i) × TightAt (used t) i)
 -- the others are not about a table
 TableGives t Room = ⊥
 TableGives t Record = ⊥

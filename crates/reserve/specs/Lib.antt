@@ -1,5 +1,6 @@
 pub mod Tables
 pub mod Check
+pub mod Standing
 pub mod Lists
 pub mod HandOut
 pub mod Demand

@@ -7,8 +7,10 @@ use Prim.Native.Nat.{ℕ, suc, _-_, _≤_, _<_}
 use lib.Dec.{ltb, eqb}
 use lib.ListN.{getD, length}
 use Rattle.refusal.specs.declared.Refusal.the-variants.{None}
+use Rattle.table.specs.declared.Row.{Row}
 use Rattle.table.specs.declared.Table.{Table}
-use Rattle.table.specs.Rows.{used, cycleOf}
+use Rattle.table.specs.Rows.{used, rowAt, cycleOf}
+use Rattle.table.specs.Windows.{windowEnd, wants}
 use Rattle.table.specs.Check.{rowsRefusal}
 use Rattle.rule.specs.Slots.{unit, firstRow}
 use Rattle.rule.specs.Rule.{takes, short, begins, holder}
@@ -19,6 +21,14 @@ use Rattle.reserve.specs.Lists.{reservationList}
 pub record Ready (t : Table) (cycle : ℕ) : Type 0 where
   pub rows : rowsRefusal t ≡ None
   pub is-cycle : cycle ≡ cycleOf (used t)
+
+-- nothing is done of any job: all of a is left
+abbrev pub Unspent : List Row → List ℕ → Type 0
+Unspent rs left = (i : ℕ) → i < length rs → getD left i 0 ≡ rowAt rs i .alternate
+
+-- what the job of slot s's window claims, of a row with `left` units left of its current job: those in the clock c's own window, and else all of a
+abbrev pub claimAt : Row → ℕ → ℕ → ℕ → ℕ
+claimAt r c left s = cond (eqb (windowEnd r s) (windowEnd r c)) left (wants r s)
 
 -- bytes that begin with the table's reservation list
 pub record Listed (t : Table) (cycle : ℕ) (list : List ℕ) : Type 0 where

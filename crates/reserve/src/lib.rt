@@ -2,6 +2,7 @@
 ghost use mathlib.Core.Path.{_≡_};
 ghost use Rattle.table.specs.Rows.{used};
 ghost use Rattle.reserve.specs.Check.{tableCheck};
+ghost use Rattle.reserve.specs.Standing.{fromClock};
 ghost use Rattle.reserve.specs.Lists.{reservationList, firstSlots};
 ghost use Rattle.reserve.specs.HandOut.{handed, handedOver};
 use refusal::Refusal;
@@ -15,6 +16,14 @@ mod sweep;
 pub struct Handed {
     pub refusal: Refusal,
     pub used: usize,
+}
+
+// What the rule says from a clock on: a refusal (1 to 6), the cycle, the first row with a job that is short, and the holder of the clock's slot; 0 for none.
+pub struct Standing {
+    pub refusal: Refusal,
+    pub cycle: u16,
+    pub short: u8,
+    pub holder: u8,
 }
 
 // Refusals 1 to 7 of a table given as rows, and its cycle.
@@ -42,6 +51,32 @@ pub fn check(t: Table) -> Checked
         _ => Checked {
             refusal: f,
             cycle: 0,
+        },
+    }
+}
+
+// What the rule says from the clock on, where `left` has what is left of the rows' current jobs, in order.
+pub fn from_clock(t: Table, clock: u16, left: [u16; 16]) -> Standing
+    ensures { λ r. ⌜ r ≡ fromClock t clock left ⌝ }
+{
+    let rows = table::check_rows(t);
+    let f = rows.refusal;
+    match f {
+        Refusal::None => {
+            let cycle = rows.cycle;
+            let swept = sweep::down(t, cycle, clock, left);
+            Standing {
+                refusal: Refusal::None,
+                cycle,
+                short: swept.short,
+                holder: swept.holder,
+            }
+        }
+        _ => Standing {
+            refusal: f,
+            cycle: 0,
+            short: 0,
+            holder: 0,
         },
     }
 }

@@ -94,6 +94,11 @@ within-join P a c b h l = go (c - a) a (omega arith)
     go zero x e = let q : x ≡ c = omega arith in omega (arith, ap (λ (y : ℕ). within P y b) q, within-none P x c (omega arith))
     go (suc n) x e = omega (arith, within-step P x b (omega arith), within-step P x c (omega arith), go n (suc x) (omega arith))
 
+-- the slots before the last, and the last
+pub within-last : (P : ℕ → Bool) (a b : ℕ) → a ≤ b → within P a (suc b) ≡ within P a b + unit (P b)
+within-last P a b h =
+    omega (arith, within-join P a b (suc b) h (omega arith), within-step P b (suc b) (omega arith), within-none P (suc b) (suc b) (omega arith))
+
 -- P holds where Q or R does, and those two hold at no slot together
 pub within-parted : (P Q R : ℕ → Bool) (a b : ℕ) → ((t : ℕ) → a ≤ t → t < b → unit (P t) ≡ unit (Q t) + unit (R t)) → within P a b ≡ within Q a b + within R a b
 within-parted P Q R a b h = go a (b - a) (λ t l u. h t l (omega arith))

@@ -13,3 +13,8 @@ pub mod Remainders
 pub mod Sweep
 pub mod Claims
 pub mod HolderList
+pub mod Enough
+pub mod Alike
+pub mod Advance
+pub mod Moves
+pub mod Every

@@ -1,7 +1,7 @@
 -- Counting and looking for slots, and looking for rows. P is a test of slots, or of rows counted from 0.
 -- Assumes nothing: these are definitions.
 use Prim.Native.Nat.{ℕ, zero, suc, _+_, _-_}
-use mathlib.Core.Bool.{Bool, true, false, cond, _||_}
+use mathlib.Core.Bool.{Bool, true, false, cond, _&&_, _||_}
 use lib.Dec.{eqb}
 
 abbrev pub unit : Bool → ℕ
@@ -35,3 +35,8 @@ orRow found test k = cond (eqb found 0) (cond test k 0) found
 unfoldable pub firstRow : (ℕ → Bool) → ℕ → ℕ
 firstRow P zero = 0
 firstRow P (suc n) = orRow (firstRow P n) (P n) (suc n)
+
+-- P holds at each of the first n rows
+unfoldable pub every : (ℕ → Bool) → ℕ → Bool
+every P zero = true
+every P (suc n) = every P n && P n

@@ -70,9 +70,18 @@ module _ (r : Row) (good : Good r) where
   unfolding opens closes windowEnd
   end-opens j l = let e : j - 1 + 1 ≡ j = omega arith in rw (mul-div-cancel (j - 1) (good .period), e)
 
-  pub closes-next : (j : ℕ) → closes r j ≤ opens r (suc j)
+  -- the windows follow each other, from slot 0 on
+  pub closes-none : closes r 0 ≡ 0
+  unfolding closes
+  closes-none = omega arith
+
+  pub opens-after : (j : ℕ) → opens r (suc j) ≡ closes r j
   unfolding opens closes
-  closes-next j = let e : suc j - 1 ≡ j = omega arith in rw e (omega arith)
+  opens-after j = let e : suc j - 1 ≡ j = omega arith in rw e
+
+  -- so none opens before the one before it closes
+  pub closes-next : (j : ℕ) → closes r j ≤ opens r (suc j)
+  closes-next j = omega (arith, opens-after j)
 
   pub opens-first : (j : ℕ) → 1 ≤ j → opens r j < closes r j
   opens-first j l = rw (end-opens j l) at (in-window (opens r j))

@@ -1,6 +1,6 @@
 -- When each refusal of a table file is given. What specs/Exactly says of a refusal brings it about (`given-if`), and of every file it says something of some refusal (`some-gives`).
 -- Assumes nothing.
-use mathlib.Core.Path.{_≡_, refl, sym, _∙_, subst}
+use mathlib.Core.Path.{_≡_, refl, sym, _∙_}
 use mathlib.Core.Logic.{_⊎_, inl, inr, _↔_, _≢_, ⊎-elim}
 use mathlib.Core.Bool.{false}
 use mathlib.Core.List.{List}
@@ -16,8 +16,8 @@ use Rattle.refusal.specs.Order.{accepted, orElse}
 use Rattle.refusal.proofs.Order.{passes}
 use Rattle.rule.proofs.Tests.{split, side}
 use Rattle.reserve.specs.Check.{tableRefusal}
-use Rattle.reserve.specs.Exactly.{Counted, TableGives}
-use Rattle.reserve.proofs.Exactly.{table-gives}
+use Rattle.reserve.specs.Exactly.{Counted, RowsGives, TableGives}
+use Rattle.reserve.proofs.Exactly.{exact, table-gives}
 use Rattle.tablefile.specs.Layout.{lengthFor, lengthField, following, versionByte, countByte, tableFrom}
 use Rattle.tablefile.specs.Answers.{headRefusal, fileRefusal}
 use Rattle.tablefile.specs.Exactly.{Unmatched, Matched, Versioned, RightLength, Framed, FileGives}
@@ -69,15 +69,15 @@ module _ (s : List ℕ) where
 
   -- nothing gives the variants that have no clause here
   given-if : (f : Refusal) → FileGives s f → fileRefusal s ≡ f
-  unfolding FileGives TableGives tableFrom
-  given-if None g = given-rows (g .0 .0) (g .1 .0) (g .0 .1) None (g .1)
+  unfolding FileGives TableGives RowsGives tableFrom
+  given-if None g = given-rows (g .0 .0) (g .1 .0 .0) (g .0 .1) None (g .1)
   given-if Empty g = given-empty (g .0) (g .1)
   given-if Many g = given-many (g .0) (g .1)
   given-if (Zero k) g = given-rows (g .0 .0) (g .1 .counted) (g .0 .1) (Zero k) (g .1)
   given-if (Long k) g = given-rows (g .0 .0) (g .1 .counted) (g .0 .1) (Long k) (g .1)
   given-if (Order k) g = given-rows (g .0 .0) (g .1 .counted) (g .0 .1) (Order k) (g .1)
   given-if Cycle g = given-rows (g .0 .0) (g .1 .0) (g .0 .1) Cycle (g .1)
-  given-if (Tight k) g = given-rows (g .0 .0) (g .1 .0) (g .0 .1) (Tight k) (g .1)
+  given-if (Tight k) g = given-rows (g .0 .0) (g .1 .0 .0) (g .0 .1) (Tight k) (g .1)
   given-if Size (inl c) = given-unmatched c
   given-if Size (inr g) = given-size (g .0) (g .1) (g .2)
   given-if Version g = given-version (g .0) (g .1)
@@ -98,7 +98,7 @@ module _ (s : List ℕ) where
   framed-gives r (Tight k) g = (r, g)
 
   versioned-gives : Versioned s → SomeGives
-  unfolding FileGives TableGives tableFrom
+  unfolding FileGives TableGives RowsGives tableFrom
   versioned-gives v =
       ⊎-elim (λ (e : n ≡ 0). (Empty, (v, e)))
       (λ (p : 0 < n).
@@ -122,4 +122,4 @@ module _ (s : List ℕ) where
 
 -- 'Order for a file': each number exactly when document 01 says and no earlier one applies
 pub file-gives : (s : List ℕ) (f : Refusal) → (fileRefusal s ≡ f) ↔ FileGives s f
-file-gives s f = (λ e. let g : SomeGives s = some-gives s in subst (FileGives s) (sym (given-if s (g .0) (g .1)) ∙ e) (g .1), given-if s f)
+file-gives s = exact (FileGives s) (given-if s) (some-gives s)

@@ -11,6 +11,9 @@ window-end-requires c κs = search needs
 add-if1 : tie.Need-add-if1
 add-if1 c = search needs
 
+claim-requires : tie.Need-claim-requires
+claim-requires c κs = search needs
+
 returns : tie.Need-returns
 returns c = search (arrived-last)
 
@@ -18,4 +21,4 @@ returns-2 : tie.Need-returns-2
 returns-2 c = search (arrived-on)
 
 pub arrived-spec : {M : Type 1} → statement M
-arrived-spec = tie.close (tie.spec window-end-requires add-if1 returns returns-2)
+arrived-spec = tie.close (tie.spec window-end-requires add-if1 claim-requires returns returns-2)

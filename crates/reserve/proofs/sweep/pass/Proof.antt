@@ -13,10 +13,11 @@ use Rattle.reserve.proofs.sweep.pass.Statement.{statement}
 use Rattle.reserve.proofs.sweep.pass.Tie as tie
 
 abbrev Inv-loop : tie.InvT-loop
-Inv-loop cycle s t rests n left₀ holder₀ short₀ i₀ left holder short i = (i ≤ n) × (n ≤ 16) × (length (t .rows) ≡ 16) × (length left ≡ 16) × Turn t i s left holder short
+Inv-loop cycle clock s t left rests n after₀ holder₀ short₀ i₀ after holder short i =
+    (i ≤ n) × (n ≤ 16) × (length (t .rows) ≡ 16) × (length after ≡ 16) × Turn t clock left i s after holder short
 
 abbrev μ-loop : tie.MeasureT-loop
-μ-loop cycle s t rests n left₀ holder₀ short₀ i₀ left holder short i = n - i
+μ-loop cycle clock s t left rests n after₀ holder₀ short₀ i₀ after holder short i = n - i
 
 loop-holds : tie.Need-loop-holds Inv-loop μ-loop
 loop-holds c = (omega arith, few (c .pre .0), search (long), refl, turn-start _ _ _ _ _)
@@ -35,6 +36,12 @@ mul-arrived c = search needs
 
 array-read-arrived : tie.Need-array-read-arrived Inv-loop μ-loop
 array-read-arrived c = search needs
+
+mul-arrived-2 : tie.Need-mul-arrived-2 Inv-loop μ-loop
+mul-arrived-2 c = search needs
+
+array-read-arrived-2 : tie.Need-array-read-arrived-2 Inv-loop μ-loop
+array-read-arrived-2 c = search needs
 
 arrived-requires : tie.Need-arrived-requires Inv-loop μ-loop
 arrived-requires c κs = search (period-some)
@@ -57,11 +64,11 @@ add-picked-2 c = search needs
 picked-requires-2 : tie.Need-picked-requires-2 Inv-loop μ-loop
 picked-requires-2 c κs = search needs
 
-mul-left : tie.Need-mul-left Inv-loop μ-loop
-mul-left c = search needs
+mul-after : tie.Need-mul-after Inv-loop μ-loop
+mul-after c = search needs
 
-array-write-left : tie.Need-array-write-left Inv-loop μ-loop
-array-write-left c = search needs
+array-write-after : tie.Need-array-write-after Inv-loop μ-loop
+array-write-after c = search needs
 
 add-i : tie.Need-add-i Inv-loop μ-loop
 add-i c = search needs
@@ -74,12 +81,13 @@ loop-again c =
     let at-arrived = c .before .before .before .before in
     let in-loop = at-arrived .before .before in
     let at-loop = in-loop .before in
-    let start = at-loop .before in (
+    let start = at-loop .before in
+    let inv = at-loop .loop .inv in (
       omega arith,
       search needs,
-      at-loop .loop .inv .2,
+      inv .2,
       simp length-set (search needs),
-      pass-step (start .pre .0) (at-loop .loop .inv .2) (in-loop .loop-test .taken) (at-loop .loop .inv .3) (at-loop .loop .inv .4) (start .args .t4) (start .pre .2)
+      pass-step (start .pre .0) (inv .2) (start .pre .1) (in-loop .loop-test .taken) (inv .3) _ (start .args .t6) (inv .4) (start .pre .3)
           (at-arrived .arrived .ensures) (c .before .before .before .spent .ensures) (c .before .before .picked .ensures) (c .before .short-here .ensures) (c .picked2 .ensures),
     )
 
@@ -98,6 +106,8 @@ pass-spec =
     element-copy-out-row
     mul-arrived
     array-read-arrived
+    mul-arrived-2
+    array-read-arrived-2
     arrived-requires
     spent-requires
     add-picked
@@ -105,8 +115,8 @@ pass-spec =
     short-here-requires
     add-picked-2
     picked-requires-2
-    mul-left
-    array-write-left
+    mul-after
+    array-write-after
     add-i
     loop-less
     loop-again

@@ -1,0 +1,54 @@
+-- The answers of the question, of one slot and of a list of reports, refused ones too.
+-- Assumes nothing: these are definitions.
+use Prim.Native.Nat.{ℕ}
+use mathlib.Core.Bool.{cond}
+use mathlib.Core.List.{List, _++_}
+use lib.Dec.{ltb}
+use lib.ListN.{length, drop}
+use Rattle.refusal.specs.declared.Refusal.{Refusal}
+use Rattle.refusal.specs.declared.Refusal.the-variants.{Room}
+use Rattle.refusal.specs.Order.{accepted, given, orElse, beside}
+use Rattle.table.specs.declared.Row.{Row}
+use Rattle.table.specs.declared.Table.{Table}
+use Rattle.table.specs.Rows.{used}
+use Rattle.slots.specs.declared.Record.{Record}
+use Rattle.slots.specs.declared.Asked.{Asked}
+use Rattle.slots.specs.declared.Stepped.{Stepped}
+use Rattle.slots.specs.declared.Ran.{Ran}
+use Rattle.slots.specs.Sound.{recordRefusal}
+use Rattle.slots.specs.OneSlot.{what, byteOf, stepOf}
+use Rattle.slots.specs.Reports.{reportRefusal, Outcome, stopped, runOf}
+
+-- ---- the question: 'what runs at the clock, as the log's byte and without a report'; 1 to 7, then 9
+unfoldable pub askedOf : Table → Record → Asked
+askedOf t q = record { refusal = recordRefusal t q; ran = beside (recordRefusal t q) (byteOf (what (used t) q)) }
+
+-- ---- one slot
+-- with the refusal f: beside one, the record given and 0
+unfoldable pub slotUnder : Refusal → List Row → Record → ℕ → Stepped
+slotUnder f rs q rep = record { refusal = f; next = cond (accepted f) (stepOf rs q rep) q; ran = beside f (byteOf (what rs q)) }
+
+-- 1 to 7, 9, then 10 before 11
+unfoldable pub steppedBy : Table → Record → ℕ → Stepped
+steppedBy t q rep = slotUnder (orElse (recordRefusal t q) (reportRefusal (what (used t) q) rep)) (used t) q rep
+
+-- ---- a list of reports, with a lent log that held `old`
+-- 1 to 7, 9, then 8: 'The log needs as many bytes as there are reports.'
+unfoldable pub entryRefusal : Table → Record → List ℕ → List ℕ → Refusal
+entryRefusal t q reps old = orElse (recordRefusal t q) (given (ltb (length old) (length reps)) Room)
+
+-- 'then, slot by slot, 10 before 11'
+unfoldable pub outcomeOf : Table → Record → List ℕ → List ℕ → Outcome
+outcomeOf t q reps old = cond (accepted (entryRefusal t q reps old)) (runOf (used t) q reps) (stopped (entryRefusal t q reps old) q)
+
+-- 'it answers the number, the slots accepted, the record after them'
+unfoldable pub ranBy : Table → Record → List ℕ → List ℕ → Ran
+ranBy t q reps old =
+    let o : Outcome = outcomeOf t q reps old in
+    record { refusal = o .refusal; slots = length (o .log); next = o .next }
+
+-- 'and their log bytes, later bytes untouched'
+unfoldable pub logAfter : Table → Record → List ℕ → List ℕ → List ℕ
+logAfter t q reps old =
+    let o : Outcome = outcomeOf t q reps old in
+    o .log ++ drop (length (o .log)) old

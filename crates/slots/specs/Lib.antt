@@ -1,0 +1,12 @@
+pub mod Records
+pub mod Sound
+pub mod OneSlot
+pub mod WaitingSet
+pub mod Reports
+pub mod Answers
+pub mod History
+pub mod LostUnits
+pub mod Allowed
+pub mod Course
+pub mod Exactly
+pub mod Turns

@@ -1,0 +1,69 @@
+// The rows that wait, as a set of 16 bits, row 1 in the lowest place.
+ghost use mathlib.Core.Path.{_≡_};
+ghost use mathlib.Core.Bool.{cond};
+ghost use Prim.Native.Nat.{_+_, _≤_};
+ghost use lib.Dec.{eqb};
+ghost use lib.Count.{trailingZeros};
+ghost use Rattle.rule.specs.Slots.{unit};
+ghost use Rattle.slots.specs.OneSlot.{isWaiting, waits};
+ghost use Rattle.slots.specs.WaitingSet.{setFrom};
+ghost use Rattle.slots.specs.Turns.{membersOf};
+use crate::Job;
+use crate::State;
+
+// The set, its lowest member counted from 1, 0 of the empty set, and the count of its members.
+pub(crate) struct Members {
+    pub set: u16,
+    pub row: u8,
+    pub count: u8,
+}
+
+// 1 for a job that waits.
+fn bit(state: State) -> u16
+    ensures { λ r. ⌜ r ≡ unit (isWaiting state) ⌝ }
+{
+    match state {
+        State::Waiting => 1,
+        State::Failed => 0,
+        State::Done => 0,
+    }
+}
+
+// The set of the waiting rows among the first n, built from the highest place down.
+fn waiting_set(jobs: [Job; 16], n: u8) -> u16
+    requires { ⌜ n ≤ 16 ⌝ }
+    ensures { λ x. ⌜ x ≡ setFrom (waits jobs) 0 n ⌝ }
+{
+    let mut i = n;
+    let mut x: u16 = 0;
+    while 0 < i {
+        i -= 1;
+        let j = jobs[i as usize];
+        let state = j.state;
+        let b = bit(state);
+        x = b + 2 * x;
+    }
+    x
+}
+
+// The lowest member, counted from 1; 0 of the empty set.
+fn lowest(x: u16) -> u8
+    ensures { λ r. ⌜ r ≡ cond (eqb x 0) 0 (trailingZeros 16 x + 1) ⌝ }
+{
+    if x == 0 {
+        0
+    } else {
+        u16::trailing_zeros(x) as u8 + 1
+    }
+}
+
+// The waiting rows among the first n.
+pub(crate) fn awaited_rows(jobs: [Job; 16], n: u8) -> Members
+    requires { ⌜ n ≤ 16 ⌝ }
+    ensures { λ r. ⌜ r ≡ membersOf jobs n ⌝ }
+{
+    let set = waiting_set(jobs, n);
+    let row = lowest(set);
+    let count = u16::count_ones(set) as u8;
+    Members { set, row, count }
+}
