@@ -1,15 +1,16 @@
 -- Demand 3: 'Take an accepted table, a fresh start and reports of which none is refused. Each job whose deadline has come had either its primary reported done inside its own
 -- window, or its full alternate time inside that window. No job gets more primary or alternate units than its row allows, no alternate unit after its primary is done, and no
--- primary unit after its alternate began. Other jobs' failures change none of this.' Stated through the contracts of `fresh` and `Record::run`.
+-- primary unit after its alternate began. Other jobs' failures change none of this.' Stated through the contracts of `fresh` and `Record::run`, and of `Record::step`.
 -- Assumes nothing.
-use mathlib.Core.Path.{_≡_, refl, sym, ap, _∙_, subst}
+use mathlib.Core.Path.{_≡_, refl, sym, ap, ap₂, _∙_, subst}
 use mathlib.Core.Logic.{⊎-elim, inl, inr}
 use mathlib.Core.List.{List, []}
-use Prim.Native.Nat.{ℕ, _≤_, _<_}
+use Prim.Native.Nat.{ℕ, zero, suc, _≤_, _<_}
 use native.Mathlib.Omega.{arith}
 use lib.ListN.{length, getD, drop, List·getD-append}
 use Rattle.refusal.specs.declared.Refusal.{Refusal}
 use Rattle.refusal.specs.declared.Refusal.the-variants.{None}
+use Rattle.refusal.proofs.Order.{beside-none}
 use Rattle.table.specs.declared.Row.{Row}
 use Rattle.table.specs.declared.Table.{Table}
 use Rattle.table.specs.Rows.{used}
@@ -18,19 +19,21 @@ use Rattle.rule.proofs.Counting.{within-same}
 use Rattle.reserve.specs.Check.{tableRefusal}
 use Rattle.slots.specs.declared.Record.{Record}
 use Rattle.slots.specs.declared.Started.{Started}
+use Rattle.slots.specs.declared.Stepped.{Stepped}
 use Rattle.slots.specs.Records.{freshOf, freshRecord, startedFor}
 use Rattle.slots.specs.Sound.{sound, recordRefusal}
-use Rattle.slots.specs.OneSlot.{Work}
+use Rattle.slots.specs.OneSlot.{Work, what, byteOf, stepOf}
 use Rattle.slots.specs.Reports.{Outcome, runOf, recAfter}
 use Rattle.slots.specs.History.{workOf, logged, reported, isPrimary, isAlternate, primaries, alternates}
+use Rattle.slots.specs.Answers.{slotUnder, steppedBy}
 use Rattle.slots.specs.Turns.{RunLeaves}
 use Rattle.slots.proofs.SoundRecord.{Usable, table-usable, sound-if, none-table, sound-none}
-use Rattle.slots.proofs.StaysSound.{fresh-sound}
-use Rattle.slots.proofs.RunFacts.{run-none, run-whole}
+use Rattle.slots.proofs.StaysSound.{fresh-sound, what-allowed}
+use Rattle.slots.proofs.RunFacts.{run-none, run-whole, what-byte}
 use Rattle.slots.proofs.RunCourse.{run-course}
 use Rattle.runs.specs.Demand3.{Finished, Served, AllServed}
 use Rattle.runs.proofs.Courses.{course-served}
-use Rattle.runs.proofs.Calls.{FreshCall, freshTable, RunCall, runFrom, runTable, runReports, runOutcome, oldLog, newLog}
+use Rattle.runs.proofs.Calls.{FreshCall, freshTable, StepCall, stepFrom, stepTable, stepReport, RunCall, runFrom, runTable, runReports, runOutcome, oldLog, newLog}
 use Rattle.runs.proofs.RunAnswers.{Enters, Leaves, accepted-enters, run-answers, run-same, no-room}
 
 -- ---- two histories that agree on their first N slots
@@ -122,3 +125,50 @@ module _ (f : FreshCall) (c : RunCall) (same : runTable c ≡ freshTable f) (fro
       let r : Leaves c (runOutcome c) = run-answers c g in
       let whole : c .answer .slots ≡ length (runReports c) = r .count ∙ run-whole (used t) (runFrom c) (runReports c) (sym (r .stop) ∙ z) in
       subst (λ (n : ℕ). AllServed (used t) n (logged (newLog c)) (reported (runReports c))) whole (demand-3-slots (fresh-refusal ∙ none-table t (runFrom c) (g .admitted)))
+
+-- an accepted slot answers the next record and what ran
+step-accepted : (t : Table) (q : Record) (rep : ℕ) → steppedBy t q rep .refusal ≡ None → (steppedBy t q rep .next ≡ stepOf (used t) q rep) × (steppedBy t q rep .ran ≡ byteOf (what (used t) q))
+unfolding steppedBy slotUnder
+step-accepted t q rep h = (rw h refl, sym (beside-none _ (byteOf (what (used t) q)) h))
+
+-- ---- a call of `fresh`, and N of `Record::step` on the same table: the first from the record that `fresh` gave, each later one from the record that the one before answered, none refused
+pub record StepsFrom (f : FreshCall) (N : ℕ) (steps : ℕ → StepCall) : Type 0 where
+  pub begins : 0 < N → stepFrom (steps 0) ≡ f .answer .start
+  pub goes : (n : ℕ) → suc n < N → stepFrom (steps (suc n)) ≡ steps n .answer .next
+  pub tables : (n : ℕ) → n < N → stepTable (steps n) ≡ freshTable f
+  pub accepted : (n : ℕ) → n < N → steps n .answer .refusal ≡ None
+
+module _ (f : FreshCall) (N : ℕ) (steps : ℕ → StepCall) (chain : StepsFrom f N steps) (z : f .answer .refusal ≡ None) where
+  abbrev rs : List Row
+  rs = used (freshTable f)
+
+  -- the record before each slot, and after the last
+  recs : ℕ → Record
+  recs zero = f .answer .start
+  recs (suc n) = steps n .answer .next
+
+  given : (n : ℕ) → n < N → stepFrom (steps n) ≡ recs n
+  unfolding recs
+  given zero l = chain .begins l
+  given (suc n) l = chain .goes n l
+
+  -- what an accepted slot answers
+  answers : (n : ℕ) → n < N → (steps n .answer .next ≡ stepOf rs (recs n) (stepReport (steps n))) × (steps n .answer .ran ≡ byteOf (what rs (recs n)))
+  answers n l =
+      let e : steps n .answer ≡ steppedBy (freshTable f) (recs n) (stepReport (steps n)) = steps n .meets
+      ∙ ap₂ (λ (t : Table) (q : Record). steppedBy t q (stepReport (steps n))) (chain .tables n l) (given n l) in
+      let a = step-accepted (freshTable f) (recs n) (stepReport (steps n)) (sym (ap (λ (s : Stepped). s .refusal) e) ∙ chain .accepted n l) in
+      (ap (λ (s : Stepped). s .next) e ∙ a .0, ap (λ (s : Stepped). s .ran) e ∙ a .1)
+
+  -- 'Take an accepted table, a fresh start and reports of which none is refused', handed over slot by slot
+  pub demand-3-steps : AllServed (used (freshTable f)) N (λ n. workOf (steps n .answer .ran)) (λ n. stepReport (steps n))
+  unfolding recs startedFor freshRecord stepOf
+  demand-3-steps =
+      let accepted : tableRefusal (freshTable f) ≡ None = sym (ap (λ (s : Started). s .refusal) (f .meets)) ∙ z in
+      let ok : Usable rs = table-usable (freshTable f) accepted in
+      let works : (n : ℕ) → n < N → workOf (steps n .answer .ran) ≡ what rs (recs n) = λ n l. ap workOf (answers n l .1) ∙ what-byte rs (ok .few) (recs n) in
+      course-served rs ok N recs (λ n. workOf (steps n .answer .ran)) (λ n. stepReport (steps n)) (record {
+        begins = ap (λ (s : Started). s .start) (f .meets) ∙ rw accepted refl;
+        allowed = λ n l. rw (works n l) (what-allowed rs (recs n));
+        goes = λ n l. rw (works n l) (answers n l .0);
+      })
