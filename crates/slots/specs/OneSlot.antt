@@ -29,6 +29,7 @@ pub data Work : Type 0 where
 unfoldable pub holderAt : List Row → Record → ℕ → ℕ
 holderAt rs q s = holder (ends rs) (claimsOf rs q) (length rs) s
 
+-- a job of this state waits
 abbrev pub isWaiting : State → Bool
 isWaiting Waiting = true
 isWaiting Failed = false
@@ -42,19 +43,20 @@ waits js i = isWaiting (jobAt js i .state)
 unfoldable pub lowestWaiting : List Row → List Job → ℕ
 lowestWaiting rs js = firstRow (waits js) (length rs)
 
--- in a slot that is not reserved, where `row` is the lowest waiting one
+-- in a slot that is not reserved: by the lowest waiting row, counted from 1, 0 for none
 abbrev pub unreserved : ℕ → Work
 -- 3. 'Otherwise the slot is idle.'
 unreserved zero = idle
 -- 2. 'Otherwise the lowest-numbered waiting row's primary runs one unit'
 unreserved (suc k) = primary k
 
--- in a slot with the holder given, and otherwise w
+-- by the slot's holder, counted from 1, 0 for none; and otherwise w
 abbrev pub reserved : ℕ → Work → Work
 reserved zero w = w
 -- 1. 'If the slot at the clock is reserved, its holder's alternate runs one unit'
 reserved (suc k) w = alternate k
 
+-- what runs in the slot at the clock
 unfoldable pub what : List Row → Record → Work
 what rs q = reserved (holderAt rs q (q .clock)) (unreserved (lowestWaiting rs (q .jobs)))
 
