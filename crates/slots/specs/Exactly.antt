@@ -5,7 +5,7 @@ use mathlib.Core.Path.{_≡_}
 use mathlib.Core.Logic.{_⊎_}
 use mathlib.Core.List.{List}
 use Prim.Native.Nat.{ℕ, _-_, _≤_, _<_}
-use lib.ListN.{length, getD}
+use lib.ListN.{length}
 use Rattle.refusal.specs.declared.Refusal.{Refusal}
 use Rattle.refusal.specs.declared.Refusal.the-variants.{None, Empty, Many, Zero, Long, Order, Cycle, Tight, Room, Report, Stray, Size, Version}
 use Rattle.refusal.specs.declared.Refusal.the-variants.{Record as NotSound}
@@ -23,6 +23,7 @@ use Rattle.slots.specs.Records.{jobAt, freshRecord}
 use Rattle.slots.specs.Sound.{claimsOf}
 use Rattle.slots.specs.OneSlot.{Work, primary, what}
 use Rattle.slots.specs.Reports.{recAfter}
+use Rattle.slots.specs.History.{reported}
 
 -- ---- a sound record
 -- what a job of each state has, in a row with the primary time p and the alternate time a; u units run
@@ -109,12 +110,12 @@ SlotGives t q rep = Then (RecordGives t q) (ReportGives (what (used t) q) rep)
 -- ---- a list of reports
 -- none of the first n reports is refused, 'slot by slot'
 unfoldable pub AcceptedTo : List Row → Record → List ℕ → ℕ → Type 0
-AcceptedTo rs q reps n = (t : ℕ) → t < n → ReportGives (what rs (recAfter rs q reps t)) (getD reps t 0) None
+AcceptedTo rs q reps n = (t : ℕ) → t < n → ReportGives (what rs (recAfter rs q reps t)) (reported reps t) None
 
 -- from a sound record the list is stopped by f after n slots, or, where f is None, is run to its end
 pub record ListStops (rs : List Row) (q : Record) (reps : List ℕ) (f : Refusal) (n : ℕ) : Type 0 where
   pub accepted : AcceptedTo rs q reps n
-  pub stop : ((f ≡ None) × (n ≡ length reps)) ⊎ ((n < length reps) × (f ≡ None → ⊥) × ReportGives (what rs (recAfter rs q reps n)) (getD reps n 0) f)
+  pub stop : ((f ≡ None) × (n ≡ length reps)) ⊎ ((n < length reps) × (f ≡ None → ⊥) × ReportGives (what rs (recAfter rs q reps n)) (reported reps n) f)
 
 -- a run with a lent log that holds `old` gives f after n slots: 1 to 7, 9, 8, then slot by slot
 pub data RunGivesAt (t : Table) (q : Record) (reps old : List ℕ) (f : Refusal) (n : ℕ) : Type 0 where

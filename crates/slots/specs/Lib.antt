@@ -2,9 +2,9 @@ pub mod Records
 pub mod Sound
 pub mod OneSlot
 pub mod WaitingSet
+pub mod History
 pub mod Reports
 pub mod Answers
-pub mod History
 pub mod LostUnits
 pub mod Allowed
 pub mod Course

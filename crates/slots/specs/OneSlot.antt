@@ -83,7 +83,7 @@ unfoldable pub onPrimary : ℕ → Row → Job → Job
 onPrimary zero r j = record { state = cond (eqb (j .run + 1) (r .primary)) Failed Waiting; run = j .run + 1; left = j .left }
 -- 'Done makes the job done with 0 left'
 onPrimary (suc zero) r j = record { state = Done; run = j .run + 1; left = 0 }
--- 'Failed makes it failed.'
+-- 'Failed makes it failed.' No report over 2 comes here: it is refused
 onPrimary (suc (suc n)) r j = record { state = Failed; run = j .run + 1; left = j .left }
 
 -- the entries after the slot's unit and its report

@@ -4,13 +4,13 @@ use Prim.Native.Nat.{ℕ, zero, suc}
 use mathlib.Core.Bool.{Bool, true, false, not, cond, _&&_}
 use mathlib.Core.List.{List, [], _∷_}
 use lib.Dec.{ltb}
-use lib.ListN.{getD}
 use Rattle.refusal.specs.declared.Refusal.{Refusal}
 use Rattle.refusal.specs.declared.Refusal.the-variants.{None, Report, Stray}
 use Rattle.refusal.specs.Order.{accepted, given, orElse}
 use Rattle.table.specs.declared.Row.{Row}
 use Rattle.slots.specs.declared.Record.{Record}
 use Rattle.slots.specs.OneSlot.{Work, idle, primary, alternate, what, byteOf, stepOf}
+use Rattle.slots.specs.History.{reported}
 
 abbrev pub ranPrimary : Work → Bool
 ranPrimary idle = false
@@ -46,4 +46,4 @@ runOf rs q (rep ∷ reps) =
 -- the record after t slots, each of which has its report of the list
 unfoldable pub recAfter : List Row → Record → List ℕ → ℕ → Record
 recAfter rs q reps zero = q
-recAfter rs q reps (suc t) = stepOf rs (recAfter rs q reps t) (getD reps t 0)
+recAfter rs q reps (suc t) = stepOf rs (recAfter rs q reps t) (reported reps t)

@@ -97,7 +97,7 @@ pub(crate) fn fallen_back(j: Job) -> Job
     }
 }
 
-// The job after a unit of its primary and the report: going on, done or failed.
+// The job after a unit of its primary and the report: going on, done or failed. A report over 2 was refused before.
 pub(crate) fn tried(r: Row, j: Job, report: u8) -> Job
     requires { ⌜ j .run < 65535 ⌝ }
     ensures { λ k. ⌜ k ≡ onPrimary report r j ⌝ }

@@ -10,7 +10,7 @@ awaited-rows-requires : tie.Need-awaited-rows-requires
 awaited-rows-requires c κs = search (stands-few)
 
 byte-of-requires : tie.Need-byte-of-requires
-byte-of-requires c κs = search (stands-holder, needs)
+byte-of-requires c κs = search (stands-holder)
 
 report-refusal-requires : tie.Need-report-refusal-requires
 report-refusal-requires c κs = search needs
