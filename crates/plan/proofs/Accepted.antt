@@ -1,6 +1,6 @@
 -- What the library's answers say of a table that was read and accepted: it is ready to be printed.
 -- Assumes nothing.
-use mathlib.Core.Path.{_≡_, refl, sym, ap, _∙_}
+use mathlib.Core.Path.{_≡_, refl, ap, _∙_}
 use mathlib.Core.List.{List}
 use Prim.Native.Nat.{ℕ}
 use native.Mathlib.Omega.{arith}
@@ -18,17 +18,8 @@ use Rattle.reserve.specs.Turns.{Ready}
 use Rattle.reserve.proofs.Verdict.{checked-refusal, table-ready}
 use Rattle.reserve.proofs.HandedOut.{out-used, out-places}
 use Rattle.reserve.proofs.JobsFit.{firsts-fit}
-use Rattle.tablefile.specs.declared.Reading.{Reading}
-use Rattle.tablefile.specs.Answers.{fileRefusal, readAs}
-use Rattle.tablefile.proofs.RoundTrips.{read-accepted}
 use Rattle.plan.specs.Lines.{planLines, Begins}
 use Rattle.plan.proofs.PrintedLines.{lines-count}
-
-pub was-read : (s : List ℕ) (got : Reading) → got ≡ readAs s → got .refusal ≡ None → tableRefusal (got .table) ≡ None
-unfolding readAs
-was-read s got e d =
-    let a : fileRefusal s ≡ None = ap (λ (g : Reading). g .refusal) (sym e) ∙ d in
-    ap (λ (g : Reading). tableRefusal (g .table)) e ∙ read-accepted s a
 
 module _ (t : Table) (a : tableRefusal t ≡ None) where
   pub ready : (checked : Checked) → checked ≡ tableCheck t → Ready t (checked .cycle)

@@ -16,6 +16,7 @@ use Rattle.table.specs.Rows.{used, blank}
 use Rattle.table.proofs.Check.{used-count}
 use Rattle.reserve.specs.Check.{tableRefusal}
 use Rattle.reserve.proofs.Verdict.{table-accepted, refusal-past}
+use Rattle.tablefile.specs.declared.Reading.{Reading}
 use Rattle.tablefile.specs.Layout.{lengthFor, wordBytes, rowBytes, rowsBytes, fileBytes, countByte, wordAt, rowFrom, rowsFrom, padded, tableFrom}
 use Rattle.tablefile.specs.Answers.{headRefusal, fileRefusal, handsBack, readAs}
 use Rattle.tablefile.specs.RoundTrips.{Places, Bytes, zeroed}
@@ -23,7 +24,7 @@ use Rattle.tablefile.proofs.FileLayout.{rows-count, file-size, rows-shi
 use Rattle.tablefile.proofs.HeadCases.{head-none, Headed, headed}
 
 -- ---- the rows of the rows' bytes
-same-row : (x y : Row) → x .period ≡ y .period → x .primary ≡ y .primary → x .alternate ≡ y .alternate → x ≡ y
+pub same-row : (x y : Row) → x .period ≡ y .period → x .primary ≡ y .primary → x .alternate ≡ y .alternate → x ≡ y
 same-row x y a b c =
     ap (λ (k : ℕ). record { period = k; primary = x .primary; alternate = x .alternate }) a
     ∙ ap (λ (k : ℕ). record { period = y .period; primary = k; alternate = x .alternate }) b
@@ -152,3 +153,10 @@ module _ (s : List ℕ) (a : fileRefusal s ≡ None) where
   pub written-back : Bytes s → fileBytes (readAs s .table) ≡ s
   unfolding readAs handsBack
   written-back b = ap (λ (f : Refusal). fileBytes (handsBack f (tableFrom s))) a ∙ file-back s b read-head
+
+-- the table of a reading that refuses nothing is accepted
+pub was-read : (s : List ℕ) (got : Reading) → got ≡ readAs s → got .refusal ≡ None → tableRefusal (got .table) ≡ None
+unfolding readAs
+was-read s got e d =
+    let a : fileRefusal s ≡ None = ap (λ (g : Reading). g .refusal) (sym e) ∙ d in
+    ap (λ (g : Reading). tableRefusal (g .table)) e ∙ read-accepted s a

@@ -1,6 +1,6 @@
 -- `plan::main` meets its contract.
 -- Assumes nothing.
-use Rattle.plan.proofs.Accepted.{was-read}
+use Rattle.tablefile.proofs.RoundTrips.{was-read}
 use borrow.Author.Needs.{needs}
 use Rattle.plan.proofs.main.Statement.{statement}
 use Rattle.plan.proofs.main.Tie as tie

@@ -1,0 +1,29 @@
+//! The systematic part of the cases, put together.
+
+use super::draft::Draft;
+use super::{
+    fixed_examples, fixed_files, fixed_forms, fixed_long, fixed_records, fixed_reports, fixed_rooms, fixed_tables,
+};
+use crate::numbers::Numbers;
+
+/// The bodies of the systematic part. What lent memory holds before the call is the one thing taken from the seed.
+pub fn bodies(numbers: &mut Numbers) -> Vec<Vec<u8>> {
+    let mut bodies = Vec::new();
+    for mut draft in drafts() {
+        draft.fill = numbers.byte();
+        bodies.push(draft.body());
+    }
+    bodies.extend(fixed_forms::bodies());
+    bodies
+}
+
+fn drafts() -> Vec<Draft> {
+    let mut drafts = fixed_examples::drafts();
+    drafts.extend(fixed_tables::drafts());
+    drafts.extend(fixed_files::drafts());
+    drafts.extend(fixed_rooms::drafts());
+    drafts.extend(fixed_records::drafts());
+    drafts.extend(fixed_reports::drafts());
+    drafts.extend(fixed_long::drafts());
+    drafts
+}

@@ -1,0 +1,47 @@
+//! Cycles of thousands of slots: their lists, their first slots, and runs past their ends.
+
+use super::draft::*;
+use super::fixed_examples::from_fresh;
+use super::reports;
+use crate::numbers::Numbers;
+use crate::record;
+use crate::rule;
+use crate::table::Table;
+
+/// How far a run goes on after the cycle's end.
+const PAST: usize = 150;
+
+/// For the reports alone: they are the same for every seed.
+const SEED: u64 = 1;
+
+pub fn drafts() -> Vec<Draft> {
+    let mut drafts = Vec::new();
+    for table in [two_rows(), sixteen_rows(), table_of(&[(63, 1, 1), (64, 1, 1)])] {
+        if let Ok(checked) = rule::check(&table) {
+            let fresh = record::fresh(&checked.rows);
+            let mut numbers = Numbers::new(SEED);
+            let reports = reports::right_list(&mut numbers, &checked, &fresh, checked.cycle + PAST);
+            drafts.push(Draft::new(LIST).table(&table).room(checked.cycle));
+            drafts.push(Draft::new(FIRSTS).table(&table).room(rule::first_slots(&checked).len()));
+            drafts.push(from_fresh(RUN, &table, &reports));
+            drafts.push(from_fresh(LOST, &table, &reports));
+            drafts.push(from_fresh(LOST_FRESH, &table, &vec![0; checked.cycle + PAST]));
+        }
+    }
+    drafts
+}
+
+/// The longest cycle there is, from two rows.
+fn two_rows() -> Table {
+    table_of(&[(512, 200, 100), (4096, 1000, 300)])
+}
+
+/// And from sixteen, ties among them.
+fn sixteen_rows() -> Table {
+    let mut rows = Vec::new();
+    for (period, p, a) in [(128, 20, 9), (256, 30, 11), (512, 70, 13), (1024, 90, 30), (2048, 250, 40)] {
+        rows.extend([(period, p, a), (period, p + 1, a), (period, p, a + 1)]);
+    }
+    rows.push((4096, 2000, 100));
+    table_of(&rows)
+}

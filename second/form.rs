@@ -1,0 +1,122 @@
+//! The binary form of cases: the input's division into bodies, and what stands at which place of a body.
+
+use crate::record::{Entry, Record, State};
+use crate::table::{Row, Table, MOST_ROWS};
+
+/// "The largest case has a body of 16,384 bytes."
+pub const LARGEST_BODY: usize = 16_384;
+
+/// "a room over 16,384 counts as 16,384"
+pub const LARGEST_ROOM: usize = 16_384;
+
+pub const TABLE_PLACE: usize = 4;
+pub const RECORD_PLACE: usize = 101;
+pub const REPORT_PLACE: usize = 183;
+
+/// What comes next in an input: a case's body, or a reason to stop.
+#[derive(Debug, PartialEq, Eq)]
+pub enum Next<'a> {
+    Body(&'a [u8]),
+    TooLong,
+    CutOff,
+    End,
+}
+
+/// The rest of an input of case after case.
+pub struct Input<'a> {
+    rest: &'a [u8],
+}
+
+impl<'a> Input<'a> {
+    pub fn new(bytes: &'a [u8]) -> Input<'a> {
+        Input { rest: bytes }
+    }
+
+    /// The next case: "two bytes, the length L of its body, and then the L bytes of the body". A length field that
+    /// says too much is met before the end of the input that may follow it.
+    pub fn take(&mut self) -> Next<'a> {
+        let (length, rest) = match self.rest {
+            [] => return Next::End,
+            [_] => return Next::CutOff,
+            [high, low, rest @ ..] => (usize::from(u16::from_be_bytes([*high, *low])), rest),
+        };
+        if length > LARGEST_BODY {
+            return Next::TooLong;
+        }
+        if length > rest.len() {
+            return Next::CutOff;
+        }
+        let (body, rest) = rest.split_at(length);
+        self.rest = rest;
+        Next::Body(body)
+    }
+}
+
+/// A case's body. "Bytes that a body doesn't have count as 0."
+pub struct Body<'a> {
+    bytes: &'a [u8],
+}
+
+impl<'a> Body<'a> {
+    pub fn new(bytes: &'a [u8]) -> Body<'a> {
+        Body { bytes }
+    }
+
+    pub fn byte(&self, place: usize) -> u8 {
+        self.bytes.get(place).copied().unwrap_or(0)
+    }
+
+    pub fn word(&self, place: usize) -> u16 {
+        u16::from_be_bytes([self.byte(place), self.byte(place + 1)])
+    }
+
+    /// "the body's bytes from place ... on"; none "where the body ends before its first place".
+    pub fn list_at(&self, place: usize) -> &'a [u8] {
+        self.bytes.get(place..).unwrap_or(&[])
+    }
+
+    pub fn kind(&self) -> u8 {
+        self.byte(0)
+    }
+
+    pub fn fill(&self) -> u8 {
+        self.byte(1)
+    }
+
+    pub fn room(&self) -> usize {
+        usize::from(self.word(2)).min(LARGEST_ROOM)
+    }
+
+    /// "n, one byte, and then sixteen rows, whatever n is, of period, p and a, two bytes each"
+    pub fn table(&self) -> Table {
+        let mut table = Table::zeros();
+        table.n = self.byte(TABLE_PLACE);
+        for (index, row) in table.rows.iter_mut().enumerate() {
+            let place = TABLE_PLACE + 1 + 6 * index;
+            *row = Row { period: self.word(place), p: self.word(place + 2), a: self.word(place + 4) };
+        }
+        table
+    }
+
+    /// "the clock, two bytes, and then sixteen entries, whatever the table's n is, of a state, one byte [...], u, two
+    /// bytes, and the units left, two bytes"
+    pub fn record(&self) -> Record {
+        let nothing = Entry { state: State::Waiting, u: 0, left: 0 };
+        let mut record = Record { clock: self.word(RECORD_PLACE), entries: [nothing; MOST_ROWS] };
+        for (index, entry) in record.entries.iter_mut().enumerate() {
+            let place = RECORD_PLACE + 2 + 5 * index;
+            let state = state(self.byte(place));
+            *entry = Entry { state, u: self.word(place + 1), left: self.word(place + 3) };
+        }
+        record
+    }
+}
+
+/// "0 waiting, 1 failed, anything else done"
+fn state(byte: u8) -> State {
+    match byte {
+        0 => State::Waiting,
+        1 => State::Failed,
+        _ => State::Done,
+    }
+}
