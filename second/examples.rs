@@ -1,22 +1,16 @@
-//! The examples P1 to P11 of document 01 with every figure it gives, the binary form, and the program's own cases.
+//! The examples P1 to P11 of document 01, the binary form, the counts, and the program's own cases.
 
 use crate::answers;
-use crate::cases;
+use crate::cases::{self, draft::table_of, fixed_examples::p1};
+use crate::counts;
 use crate::file;
+use crate::form::{Input, Next};
 use crate::record::{self, Entry, Record, State};
 use crate::refusal::{self, Refusal};
 use crate::rule;
 use crate::run::{self, Course};
-use crate::table::{Checked, Row, Table};
-
-fn table(rows: &[(u16, u16, u16)]) -> Table {
-    let rows: Vec<Row> = rows.iter().map(|&(period, p, a)| Row { period, p, a }).collect();
-    Table::of(&rows)
-}
-
-fn p1() -> Table {
-    table(&[(5, 2, 1), (6, 2, 2)])
-}
+use crate::table::{Checked, Table};
+use std::io::{self, Write};
 
 fn checked(table: &Table) -> Checked {
     rule::check(table).unwrap_or_else(|refusal| panic!("refused: {:?}", refusal))
@@ -73,20 +67,20 @@ fn p3_log_and_moved_first_slot() {
 
 #[test]
 fn p4_tight_and_p5_accepted() {
-    assert_eq!(refused(&table(&[(4, 1, 2), (6, 1, 3)])), Refusal { number: 7, row: 2 });
-    let checked = checked(&table(&[(4, 1, 2), (6, 1, 2)]));
+    assert_eq!(refused(&table_of(&[(4, 1, 2), (6, 1, 3)])), Refusal { number: 7, row: 2 });
+    let checked = checked(&table_of(&[(4, 1, 2), (6, 1, 2)]));
     assert_eq!(held(&rule::reserve_fresh(&checked).holders, 2), [4, 5, 8, 9]);
 }
 
 #[test]
 fn p6_and_p7_cycles() {
-    assert_eq!(checked(&table(&[(63, 1, 1), (64, 1, 1)])).cycle, 4032);
-    assert_eq!(refused(&table(&[(64, 1, 1), (65, 1, 1)])), Refusal { number: 6, row: 0 });
+    assert_eq!(checked(&table_of(&[(63, 1, 1), (64, 1, 1)])).cycle, 4032);
+    assert_eq!(refused(&table_of(&[(64, 1, 1), (65, 1, 1)])), Refusal { number: 6, row: 0 });
 }
 
 #[test]
 fn p8_primary_never_runs() {
-    let course = from_fresh(&table(&[(4, 1, 4)]), &[0, 0, 0, 0]);
+    let course = from_fresh(&table_of(&[(4, 1, 4)]), &[0, 0, 0, 0]);
     assert_eq!(course.refusal, refusal::NONE);
     assert_eq!(course.log, [17, 17, 17, 17]);
 }
@@ -96,7 +90,7 @@ fn p9_unsound_record() {
     let mut record = record::fresh(&[]);
     record.clock = 1;
     record.entries[0] = Entry { state: State::Waiting, u: 0, left: 4 };
-    let refusal = record::check(&table(&[(4, 1, 4)]), &record).err();
+    let refusal = record::check(&table_of(&[(4, 1, 4)]), &record).err();
     assert_eq!(refusal, Some(Refusal { number: 9, row: 0 }));
 }
 
@@ -171,11 +165,11 @@ fn lent_memory_keeps_what_is_not_used() {
 #[test]
 fn lost_units_are_those_of_aborted_primaries() {
     // Going on to the last unit is an overrun and report 2 is a failure: neither is an abort.
-    assert_eq!(from_fresh(&table(&[(4, 2, 1)]), &[0, 0, 0, 0]).lost, 0);
-    assert_eq!(from_fresh(&table(&[(4, 3, 1)]), &[0, 2, 0, 0]).lost, 0);
+    assert_eq!(from_fresh(&table_of(&[(4, 2, 1)]), &[0, 0, 0, 0]).lost, 0);
+    assert_eq!(from_fresh(&table_of(&[(4, 3, 1)]), &[0, 2, 0, 0]).lost, 0);
     // At slot 3 a primary that has run three of its four units is aborted, and counts at once.
-    assert_eq!(from_fresh(&table(&[(4, 4, 1)]), &[0, 0, 0, 0]).lost, 3);
-    assert_eq!(from_fresh(&table(&[(4, 4, 1)]), &[0, 0, 0]).lost, 0);
+    assert_eq!(from_fresh(&table_of(&[(4, 4, 1)]), &[0, 0, 0, 0]).lost, 3);
+    assert_eq!(from_fresh(&table_of(&[(4, 4, 1)]), &[0, 0, 0]).lost, 0);
 }
 
 #[test]
@@ -204,16 +198,42 @@ fn sound_records_stay_sound() {
     }
 }
 
+/// The bytes that a writer of cases gives.
+fn made(write: fn(u64, u64, &mut dyn Write) -> io::Result<()>, seed: u64, n: u64) -> Vec<u8> {
+    let mut bytes = Vec::new();
+    write(seed, n, &mut bytes).expect("a vector takes every byte");
+    bytes
+}
+
+#[test]
+fn counts_tell_what_is_missing() {
+    let all = made(cases::write_all, 3, 1_100);
+    assert!(counts::report(&all).1);
+    let (text, complete) = counts::report(&all[..all.len() - 1]);
+    assert!(!complete && text.contains("the input is cut off"));
+    let (text, complete) = counts::report(&[]);
+    assert!(!complete && text.contains("missing: no case of run is answered 9\n"));
+    // Without the last kind every other number is still met.
+    let mut input = Input::new(&all);
+    let mut others = Vec::new();
+    while let Next::Body(body) = input.take() {
+        if body.first() != Some(&cases::draft::LOST_FRESH) {
+            others.extend_from_slice(&(body.len() as u16).to_be_bytes());
+            others.extend_from_slice(body);
+        }
+    }
+    let (text, complete) = counts::report(&others);
+    assert!(!complete && text.matches("missing: ").count() == text.matches("missing: no case of lostfresh").count());
+    assert_eq!(text.matches("missing: ").count(), 10);
+}
+
 #[test]
 fn cases_are_the_same_for_a_seed_and_a_smaller_number_cuts_them_short() {
-    let make = |seed, n| {
-        let mut bytes = Vec::new();
-        cases::write_all(seed, n, &mut bytes).expect("a vector takes every byte");
-        bytes
-    };
-    let long = make(7, 1500);
-    assert_eq!(long, make(7, 1500));
-    assert!(long.starts_with(&make(7, 100)));
-    assert_ne!(long, make(8, 1500));
-    assert_eq!(lines(&long).lines().count(), 1500);
+    for write in [cases::write_all, cases::write_fresh] {
+        let long = made(write, 7, 1_500);
+        assert_eq!(long, made(write, 7, 1_500));
+        assert!(long.starts_with(&made(write, 7, 100)));
+        assert_ne!(long, made(write, 8, 1_500));
+        assert_eq!(lines(&long).lines().count(), 1_500);
+    }
 }

@@ -19,16 +19,20 @@ use std::env;
 use std::io::{self, BufWriter, Read, Write};
 use std::process;
 
-const USE: &str = "use: second cases SEED N | second answers | second counts";
+const USE: &str = "use: second cases SEED N | second fresh SEED N | second answers | second counts";
 
 /// What keeps a verb from its work, as one line for standard error.
 type Trouble = String;
+
+/// Writes so many cases of a seed.
+type Writer = fn(u64, u64, &mut dyn Write) -> io::Result<()>;
 
 fn main() {
     let arguments: Vec<String> = env::args_os().skip(1).map(|word| word.to_string_lossy().into_owned()).collect();
     let words: Vec<&str> = arguments.iter().map(String::as_str).collect();
     let done = match words.as_slice() {
-        ["cases", seed, n] => make(seed, n),
+        ["cases", seed, n] => make(cases::write_all, seed, n),
+        ["fresh", seed, n] => make(cases::write_fresh, seed, n),
         ["answers"] => answer(),
         ["counts"] => count(),
         _ => Err(USE.to_string()),
@@ -42,12 +46,12 @@ fn main() {
     }
 }
 
-/// `cases SEED N`
-fn make(seed: &str, n: &str) -> Result<i32, Trouble> {
+/// `cases SEED N` and `fresh SEED N`
+fn make(write: Writer, seed: &str, n: &str) -> Result<i32, Trouble> {
     let seed = number(seed, "SEED")?;
     let n = number(n, "N")?;
     let mut out = BufWriter::new(io::stdout().lock());
-    cases::write_all(seed, n, &mut out).and_then(|()| out.flush()).map_err(not_written)?;
+    write(seed, n, &mut out).and_then(|()| out.flush()).map_err(not_written)?;
     Ok(0)
 }
 

@@ -128,7 +128,7 @@ fn damage(numbers: &mut Numbers, body: &mut Vec<u8>) {
         0 => body.truncate(numbers.below(body.len() + 1)),
         1 => (0..numbers.between(1, 6)).for_each(|_| body.push(numbers.byte())),
         _ => {
-            // The room stays as it is: a change in it could ask for many thousands of places.
+            // The room's high byte stays as it is: a change in it could ask for many thousands of places.
             let place = numbers.below(body.len().max(1));
             if let Some(byte) = body.get_mut(place).filter(|_| place != 2) {
                 *byte = numbers.byte();

@@ -18,6 +18,7 @@ pub fn drafts() -> Vec<Draft> {
             drafts.push(Draft::new(kind).table(&p1()).record(record).list(&[0, 0, 0]).room(3));
         }
     }
+    drafts.extend(sixteen_rows());
     drafts.extend(done_bytes());
     drafts.extend(clocks());
     drafts.extend(before_record());
@@ -70,6 +71,34 @@ fn unsound() -> Vec<Record> {
     records.push(record_of(4, &[(Waiting, 0, 1), (Failed, 1, 2)]));
     records.push(record_of(29, &[(Failed, 0, 1), (Failed, 0, 1)]));
     records
+}
+
+/// Sixteen rows (32,1,1), of which row 1 holds slot 31 and row 16 slot 16: the highest row and the highest place of the
+/// waiting set, and a primary, an alternate and nothing at the clock.
+fn sixteen_rows() -> Vec<Draft> {
+    let table = table_of(&[(32, 1, 1); 16]);
+    let (waiting, failed, done) = ((Waiting, 0, 1), (Failed, 0, 1), (Done, 1, 0));
+    let rows = |others, last| [[others; 15].as_slice(), &[last]].concat();
+    let records = [
+        record_of(0, &[waiting; 16]),
+        record_of(16, &[waiting; 16]),
+        record_of(0, &rows(done, waiting)),
+        record_of(0, &rows(failed, waiting)),
+        record_of(16, &rows(failed, waiting)),
+        record_of(30, &rows(done, waiting)),
+        record_of(31, &rows(done, waiting)),
+        record_of(31, &rows(done, failed)),
+        record_of(31, &[done; 16]),
+    ];
+    let mut drafts = Vec::new();
+    for record in records {
+        for kind in [CLOCK, ASKED, WAITING, STEP] {
+            drafts.push(Draft::new(kind).table(&table).record(&record).list(&[0]));
+        }
+        drafts.push(Draft::new(STEP).table(&table).record(&record).list(&[1]));
+        drafts.push(Draft::new(RUN).table(&table).record(&record).list(&[0; 34]).room(34));
+    }
+    drafts
 }
 
 /// "anything else done"

@@ -18,8 +18,8 @@ pub fn drafts() -> Vec<Draft> {
     drafts
 }
 
-/// Records of P1's table at a slot with a first, a last and an only primary unit, an alternate unit of a failed and of
-/// a waiting job, and an idle slot.
+/// Records of P1's table at a slot with a first and a last primary unit, an alternate unit of a failed and of a waiting
+/// job, and an idle slot.
 fn slots() -> Vec<Record> {
     vec![
         record_of(0, &[(Waiting, 0, 1), (Waiting, 0, 2)]),

@@ -4,7 +4,7 @@ use super::draft::*;
 use super::faults::{self, Fault};
 use super::fixed_examples::from_fresh;
 
-/// The entries with a table that give refusals 1 to 7 and more, besides `rows` and `check`.
+/// The entries that take a table, besides `rows` and `check`.
 const OTHERS: [u8; 11] = [LIST, FIRSTS, CLOCK, WRITE, FRESH, ASKED, WAITING, STEP, RUN, LOST, LOST_FRESH];
 
 pub fn drafts() -> Vec<Draft> {

@@ -11,10 +11,11 @@ const STATES: [State; 3] = [State::Waiting, State::Failed, State::Done];
 /// A record for any use: mostly a sound one.
 pub fn mixed(numbers: &mut Numbers, checked: &Checked) -> Record {
     let mut record = sound(numbers, checked);
-    match numbers.weighted(&[84, 8, 5, 3]) {
+    match numbers.weighted(&[78, 8, 5, 6, 3]) {
         0 => {}
         1 => nudge(numbers, checked, &mut record),
         2 => misfit(numbers, checked, &mut record),
+        3 => record = fitting(numbers, checked),
         _ => record = junk(numbers),
     }
     record
@@ -47,9 +48,8 @@ fn reached(numbers: &mut Numbers, checked: &Checked) -> Record {
     record
 }
 
-/// A sound record at any clock, with any states: where the entries chosen leave a job short, rows from the last up
-/// are made done, which claims nothing.
-fn placed(numbers: &mut Numbers, checked: &Checked) -> Record {
+/// A record at any clock, with any states, whose entries fit: it is sound where they leave no job short.
+fn fitting(numbers: &mut Numbers, checked: &Checked) -> Record {
     let mut record = record::fresh(&[]);
     record.clock = numbers.below(checked.cycle) as u16;
     for (row, entry) in checked.rows.iter().zip(record.entries.iter_mut()) {
@@ -60,6 +60,13 @@ fn placed(numbers: &mut Numbers, checked: &Checked) -> Record {
             State::Done => Entry { state, u: numbers.word_between(1, row.p), left: 0 },
         };
     }
+    record
+}
+
+/// A sound record at any clock, with any states: where the entries chosen leave a job short, rows from the last up
+/// are made done, which claims nothing.
+fn placed(numbers: &mut Numbers, checked: &Checked) -> Record {
+    let mut record = fitting(numbers, checked);
     let mut place = checked.rows.len();
     while place > 0 && !record::is_sound(checked, &record) {
         place -= 1;

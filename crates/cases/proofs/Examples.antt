@@ -19,11 +19,12 @@ use Rattle.slots.specs.Sound.{jobFits, jobsFit, lefts, claimsOf, sound, recordR
 use Rattle.slots.specs.OneSlot.{holderAt, lowestWaiting, what, byteOf, onAlternate, onPrimary, worked, nextClock, renewed, stepBy, stepOf}
 use Rattle.slots.specs.Reports.{reportRefusal, runOf}
 use Rattle.slots.specs.Answers.{askedOf, entryRefusal, outcomeOf, ranBy, logAfter}
-use Rattle.cases.specs.Cases.{places, fromFresh, logFromFresh, firstAfter, Each, cases}
+use Rattle.slots.specs.LostUnits.{sum}
+use Rattle.cases.specs.Cases.{load, places, fromFresh, logFromFresh, firstAfter, Each, cases}
 use Rattle.cases.proofs.Test.{same, sameRows, passes, all, all-passed}
 
 computed : T (all cases)
-unfolding all passes fromFresh logFromFresh firstAfter same sameRows places orElse beside gcdIn gcdOf lcmOf used foldOf cycleOf opens starts windowEnd wants faultOf faultsOf rowsRefusal count some firstOf orRow firstRow every held takes holder first short begins lacks tightRow claimed holders ends whole claims tightOf tableRefusal tableCheck reservationList jobsOf jobFirsts rowFirsts firstSlots wordBytes rowBytes rowsBytes fileBytes wordAt rowFrom rowsFrom tableFrom headRefusal fileRefusal handsBack readAs newJob freshJobs freshOf freshRecord startedFor jobFits jobsFit lefts claimsOf sound recordRefusal holderAt lowestWaiting what byteOf onAlternate onPrimary worked nextClock renewed stepBy stepOf reportRefusal runOf askedOf entryRefusal outcomeOf ranBy logAfter
+unfolding all passes load sum fromFresh logFromFresh firstAfter same sameRows places orElse beside gcdIn gcdOf lcmOf used foldOf cycleOf opens starts windowEnd wants faultOf faultsOf rowsRefusal count some firstOf orRow firstRow every held takes holder first short begins lacks tightRow claimed holders ends whole claims tightOf tableRefusal tableCheck reservationList jobsOf jobFirsts rowFirsts firstSlots wordBytes rowBytes rowsBytes fileBytes wordAt rowFrom rowsFrom tableFrom headRefusal fileRefusal handsBack readAs newJob freshJobs freshOf freshRecord startedFor jobFits jobsFit lefts claimsOf sound recordRefusal holderAt lowestWaiting what byteOf onAlternate onPrimary worked nextClock renewed stepBy stepOf reportRefusal runOf askedOf entryRefusal outcomeOf ranBy logAfter
 computed = tt
 
 pub examples : Each cases

@@ -15,7 +15,7 @@ use Rattle.tablefile.specs.Layout.{fileBytes}
 use Rattle.tablefile.specs.Answers.{readAs}
 use Rattle.tablefile.proofs.RoundTrips.{same-row}
 use Rattle.slots.specs.Answers.{askedOf}
-use Rattle.cases.specs.Cases.{Case, checked, cycling, starting, holding, reading, writing, running, moving, asking, table, places, fromFresh, logFromFresh, firstAfter, Claim, Each}
+use Rattle.cases.specs.Cases.{Case, checked, cycling, loading, starting, holding, reading, writing, running, moving, asking, table, load, places, fromFresh, logFromFresh, firstAfter, Claim, Each}
 
 -- ---- the test
 unfoldable pub same : List ℕ → List ℕ → Bool
@@ -33,6 +33,7 @@ sameRows (x ∷ xs) (y ∷ ys) = eqb (x .period) (y .period) && (eqb (x .primary
 unfoldable pub passes : Case → Bool
 passes (checked rs n k c) = eqb (numberOf (tableCheck (table rs) .refusal)) n && (eqb (rowOf (tableCheck (table rs) .refusal)) k && eqb (tableCheck (table rs) .cycle) c)
 passes (cycling rs c) = eqb (cycleOf (used (table rs))) c
+passes (loading rs c) = eqb (load (used (table rs))) c
 passes (starting rs xs) = same (firstSlots (used (table rs))) xs
 passes (holding rs k xs) = same (places k 0 (reservationList (used (table rs)))) xs
 passes (reading s n rs) =
@@ -86,6 +87,7 @@ passed (checked rs n k c) p =
     let q = three (numberOf (got .refusal)) n (rowOf (got .refusal)) k (eqb (got .cycle) c) p in
     (q .0, q .1, eqb→eq (got .cycle) c (q .2))
 passed (cycling rs c) p = eqb→eq (cycleOf (used (table rs))) c p
+passed (loading rs c) p = eqb→eq (load (used (table rs))) c p
 passed (starting rs xs) p = same-is (firstSlots (used (table rs))) xs p
 passed (holding rs k xs) p = same-is (places k 0 (reservationList (used (table rs)))) xs p
 passed (reading s n rs) p =

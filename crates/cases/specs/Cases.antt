@@ -1,6 +1,6 @@
 -- Document 01's examples, P1 to P11, as one table of cases, each told by the definitions that the public contracts cite.
 -- Assumes nothing: these are definitions.
-use Prim.Native.Nat.{ℕ, suc, _-_}
+use Prim.Native.Nat.{ℕ, suc, _-_, _*_, _/_}
 use mathlib.Core.Path.{_≡_}
 use mathlib.Core.Bool.{cond}
 use mathlib.Core.List.{List, [], _∷_, _++_}
@@ -9,7 +9,7 @@ use lib.ListN.{length, replicate}
 use Rattle.refusal.specs.Numbers.{numberOf, rowOf}
 use Rattle.table.specs.declared.Row.{Row}
 use Rattle.table.specs.declared.Table.{Table}
-use Rattle.table.specs.Rows.{used, cycleOf}
+use Rattle.table.specs.Rows.{used, rowAt, cycleOf}
 use Rattle.rule.specs.Rule.{first}
 use Rattle.reserve.specs.Tables.{ends}
 use Rattle.reserve.specs.Check.{tableCheck}
@@ -24,6 +24,7 @@ use Rattle.slots.specs.declared.Ran.{Ran}
 use Rattle.slots.specs.Records.{noJob, startedFor}
 use Rattle.slots.specs.Sound.{claimsOf}
 use Rattle.slots.specs.Answers.{askedOf, ranBy, logAfter}
+use Rattle.slots.specs.LostUnits.{sum}
 
 abbrev row : ℕ → ℕ → ℕ → Row
 row t p a = record { period = t; primary = p; alternate = a }
@@ -48,6 +49,8 @@ pub data Case : Type 0 where
   checked : List Row → ℕ → ℕ → ℕ → Case
   -- the least common multiple of the periods
   cycling : List Row → ℕ → Case
+  -- the slots of a cycle that its jobs claim: the load is their share of the cycle
+  loading : List Row → ℕ → Case
   -- a table's first slots, rows in order
   starting : List Row → List ℕ → Case
   -- the slots that a row, counted from 1, holds
@@ -62,6 +65,10 @@ pub data Case : Type 0 where
   moving : List Row → List ℕ → ℕ → ℕ → Case
   -- a record's number of refusal
   asking : List Row → Record → ℕ → Case
+
+-- what the alternates of all jobs of a cycle take
+unfoldable pub load : List Row → ℕ
+load rs = sum (λ k. rowAt rs k .alternate * (cycleOf rs / rowAt rs k .period)) (length rs)
 
 -- the places of the byte k in a list whose first place is s
 unfoldable pub places : ℕ → ℕ → List ℕ → List ℕ
@@ -86,6 +93,7 @@ unfoldable pub Claim : Case → Type 0
 Claim (checked rs n k c) =
     (numberOf (tableCheck (table rs) .refusal) ≡ n) × (rowOf (tableCheck (table rs) .refusal) ≡ k) × (tableCheck (table rs) .cycle ≡ c)
 Claim (cycling rs c) = cycleOf (used (table rs)) ≡ c
+Claim (loading rs c) = load (used (table rs)) ≡ c
 Claim (starting rs xs) = firstSlots (used (table rs)) ≡ xs
 Claim (holding rs k xs) = places k 0 (reservationList (used (table rs))) ≡ xs
 Claim (reading s n rs) = (numberOf (readAs s .refusal) ≡ n) × (readAs s .table .n ≡ length rs) × (readAs s .table .rows ≡ table rs .rows)
@@ -107,6 +115,10 @@ file v = 0x00 ∷ 0x0E ∷ v ∷ 0x02 ∷ 0x00 ∷ 0x05 ∷ 0x00 ∷ 0x02 ∷ 0x
 abbrev pair : List Row
 pair = row 5 2 1 ∷ row 6 2 2 ∷ []
 
+-- P4's table
+abbrev tight : List Row
+tight = row 4 1 2 ∷ row 6 1 3 ∷ []
+
 -- P8's table
 abbrev full : List Row
 full = row 4 1 4 ∷ []
@@ -123,7 +135,9 @@ cases =
     ∷ moving pair (0 ∷ []) 2 3
     ∷ moving pair (0 ∷ 1 ∷ []) 2 4
     -- P4: refused, though the load is exactly 1
-    ∷ checked (row 4 1 2 ∷ row 6 1 3 ∷ []) 7 2 0
+    ∷ checked tight 7 2 0
+    ∷ cycling tight 12
+    ∷ loading tight 12
     -- P5: accepted, though the load is over the quoted bound
     ∷ checked (row 4 1 2 ∷ row 6 1 2 ∷ []) 0 0 12
     ∷ holding (row 4 1 2 ∷ row 6 1 2 ∷ []) 2 (4 ∷ 5 ∷ 8 ∷ 9 ∷ [])

@@ -75,9 +75,12 @@ given-not true f l e = absurd (omega (arith, ap numberOf e))
 given-not false f l e = refl
 
 -- ---- a figure beside a refusal, and beside none
-pub beside-refused : (f : Refusal) (x : ℕ) → Told f → 0 ≡ beside f x
+pub beside-not : (f : Refusal) (x : ℕ) → accepted f ≡ false → 0 ≡ beside f x
 unfolding beside
-beside-refused f x p = simp (refused f p)
+beside-not f x h = rw h
+
+pub beside-refused : (f : Refusal) (x : ℕ) → Told f → 0 ≡ beside f x
+beside-refused f x p = beside-not f x (refused f p)
 
 pub beside-none : (f : Refusal) (x : ℕ) → f ≡ None → x ≡ beside f x
 unfolding beside

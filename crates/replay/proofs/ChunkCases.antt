@@ -3,7 +3,7 @@
 use mathlib.Core.Path.{_≡_, refl, sym, ap, ap₂, _∙_, subst}
 use mathlib.Core.Logic.{⊎-elim}
 use mathlib.Core.Bool.{true, false}
-use mathlib.Core.List.{List, [], _∷_, _++_}
+use mathlib.Core.List.{List, _++_}
 use Prim.Native.Nat.{ℕ, _+_, _-_, _^_, _≤_, _<_}
 use native.Mathlib.Omega.{arith}
 use lib.ListN.{length, take, drop, length-append}
@@ -12,7 +12,6 @@ use Rattle.refusal.specs.declared.Refusal.{Refusal}
 use Rattle.refusal.specs.declared.Refusal.the-variants.{None}
 use Rattle.refusal.specs.Order.{accepted, beside}
 use Rattle.refusal.proofs.Order.{Told, refused, beside-refused, beside-none}
-use Rattle.table.specs.declared.Row.{Row}
 use Rattle.table.specs.declared.Table.{Table}
 use Rattle.table.specs.Rows.{used}
 use Rattle.rule.proofs.Tests.{split}
@@ -22,16 +21,13 @@ use Rattle.slots.specs.declared.Record.{Record}
 use Rattle.slots.specs.declared.Ran.{Ran}
 use Rattle.slots.specs.declared.Lost.{Lost}
 use Rattle.slots.specs.Records.{freshRecord}
-use Rattle.slots.specs.OneSlot.{stepOf}
 use Rattle.slots.specs.Reports.{Outcome, runOf}
 use Rattle.slots.specs.Answers.{outcomeOf, ranBy, logAfter}
 use Rattle.slots.specs.LostUnits.{lostFrom, lostFresh}
 use Rattle.slots.specs.Turns.{lostBy}
-use Rattle.slots.proofs.SoundRecord.{Usable, Sound, table-usable}
-use Rattle.slots.proofs.StaysSound.{step-sound}
+use Rattle.slots.proofs.SoundRecord.{Sound, table-usable}
 use Rattle.slots.proofs.RunFacts.{run-short}
-use Rattle.slots.proofs.LostRows.{by-none, by-more}
-use Rattle.slots.proofs.LostBound.{openUnits, loss-open, open-few}
+use Rattle.slots.proofs.LostBound.{lost-most, open-few}
 use Rattle.slots.proofs.AnswerCases.{outcome-run}
 use Rattle.replay.specs.declared.Progress.{Progress}
 use Rattle.replay.specs.Chunks.{replayOf, told, movedOn, onwardOf, chunkLog, logOnward}
@@ -40,11 +36,7 @@ use Rattle.replay.specs.Turns.{Laid, Replayed}
 use Rattle.replay.proofs.Laying.{laid-is}
 use Rattle.replay.proofs.Chunks.{admitted, units-by, starts-sound, replay-sound}
 
--- ---- lost units are no more than the slots and the units that were open at first
-lost-most : (rs : List Row) → Usable rs → (q : Record) → Sound rs q → (reps : List ℕ) → lostBy rs q reps ≤ length reps + openUnits rs (q .jobs)
-lost-most rs ok q s [] = omega (arith, by-none rs q)
-lost-most rs ok q s (rep ∷ reps) = omega (arith, by-more rs q rep reps, loss-open rs ok q s rep, lost-most rs ok (stepOf rs q rep) (step-sound rs ok q rep s) reps)
-
+-- ---- the figures of a list of reports are few enough to be counted
 beside-most : (f : Refusal) (x : ℕ) → beside f x ≤ x
 unfolding beside
 beside-most f x = ⊎-elim (λ (h : accepted f ≡ true). rw h (omega arith)) (λ (h : accepted f ≡ false). rw h (omega arith)) (split (accepted f))

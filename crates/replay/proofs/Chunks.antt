@@ -9,7 +9,7 @@ use lib.ListN.{length, length-append}
 use Rattle.refusal.specs.declared.Refusal.{Refusal}
 use Rattle.refusal.specs.declared.Refusal.the-variants.{None}
 use Rattle.refusal.specs.Order.{accepted, beside}
-use Rattle.refusal.proofs.Order.{accepted-none, passes}
+use Rattle.refusal.proofs.Order.{accepted-none, passes, beside-none, beside-not}
 use Rattle.table.specs.declared.Row.{Row}
 use Rattle.table.specs.declared.Table.{Table}
 use Rattle.table.specs.Rows.{used}
@@ -29,20 +29,11 @@ use Rattle.slots.proofs.StaysSound.{fresh-sound}
 use Rattle.slots.proofs.RunFacts.{run-none, next-sound}
 use Rattle.slots.proofs.JoinedRuns.{after, join-run, join-stopped}
 use Rattle.slots.proofs.LostRows.{by-none}
-use Rattle.slots.proofs.LostSum.{lost-sum}
+use Rattle.slots.proofs.LostSum.{lost-beside}
 use Rattle.slots.proofs.JoinedLost.{join-lost}
 use Rattle.slots.proofs.AnswerCases.{outcome-run}
 use Rattle.replay.specs.declared.Progress.{Progress}
 use Rattle.replay.specs.Chunks.{replayOf, replayLog, startOf, told, movedOn, onwardOf, chunkLog, afterChunks, chunksLog, joined}
-
--- ---- a figure beside a refusal
-beside-not : (f : Refusal) (x : ℕ) → accepted f ≡ false → beside f x ≡ 0
-unfolding beside
-beside-not f x h = rw h
-
-beside-yes : (f : Refusal) (x : ℕ) → accepted f ≡ true → beside f x ≡ x
-unfolding beside
-beside-yes f x h = rw h
 
 -- ---- lost units from a sound record of an accepted table, kept slot by slot
 module _ (t : Table) (z : tableRefusal t ≡ None) (q : Record) (s : Sound (used t) q) where
@@ -58,8 +49,7 @@ module _ (t : Table) (z : tableRefusal t ≡ None) (q : Record) (s : Sound (used
       let f : Refusal = runOf rs q reps .refusal in
       let sum : ℕ = lostUnits rs q (logged (runOf rs q reps .log)) (reported reps) (length reps) in
       ap (λ (g : Refusal). beside g sum) (sym (passes (recordRefusal t q) f admitted))
-      ∙ ⊎-elim (λ (h : accepted f ≡ true). ap (beside f) (sym (lost-sum rs (table-usable t z) q s reps (accepted-none f h))))
-      (λ (h : accepted f ≡ false). beside-not f sum h ∙ sym (beside-not f (lostBy rs q reps) h)) (split (accepted f))
+      ∙ sym (lost-beside rs (table-usable t z) q s reps f refl)
 
 module _ (t : Table) (z : tableRefusal t ≡ None) where
   -- ---- a list over a fresh start
@@ -104,7 +94,7 @@ module _ (t : Table) (z : tableRefusal t ≡ None) where
   replay-none =
       let q : Record = freshRecord t in
       let e : runOf (used t) q [] ≡ record { refusal = None; next = q; log = [] } = run-none (used t) q in
-      let u : replayOf t [] .lost ≡ 0 = replay-lost [] ∙ ap (λ (o : Outcome). beside (o .refusal) (lostBy (used t) q [])) e ∙ beside-yes None (lostBy (used t) q []) refl ∙ by-none (used t) q in
+      let u : replayOf t [] .lost ≡ 0 = replay-lost [] ∙ ap (λ (o : Outcome). beside (o .refusal) (lostBy (used t) q [])) e ∙ sym (beside-none None (lostBy (used t) q []) refl) ∙ by-none (used t) q in
       rw (u, e) refl
 
   -- ---- one more chunk: the progress and the log are those of the lists joined
@@ -127,21 +117,21 @@ module _ (t : Table) (z : tableRefusal t ≡ None) where
     lost-stopped : accepted (first .refusal) ≡ false → replayOf t xs .lost ≡ replayOf t (xs ++ ys) .lost
     lost-stopped h =
         replay-lost xs
-        ∙ beside-not (first .refusal) (lostBy (used t) q xs) h
-        ∙ sym (beside-not (runOf (used t) q (xs ++ ys) .refusal) (lostBy (used t) q (xs ++ ys)) (ap (λ (o : Outcome). accepted (o .refusal)) (stopped h) ∙ h))
+        ∙ sym (beside-not (first .refusal) (lostBy (used t) q xs) h)
+        ∙ beside-not (runOf (used t) q (xs ++ ys) .refusal) (lostBy (used t) q (xs ++ ys)) (ap (λ (o : Outcome). accepted (o .refusal)) (stopped h) ∙ h)
         ∙ sym (replay-lost (xs ++ ys))
 
     lost-on : accepted (first .refusal) ≡ true → beside (second .refusal) (replayOf t xs .lost + lostFrom t (first .next) ys .units) ≡ replayOf t (xs ++ ys) .lost
     lost-on h =
         let more : ℕ = lostBy (used t) (first .next) ys in
         let s : Sound (used t) (first .next) = next-sound (used t) (table-usable t z) q starts-sound xs in
-        ap₂ (λ (x y : ℕ). beside (second .refusal) (x + y)) (replay-lost xs ∙ beside-yes (first .refusal) (lostBy (used t) q xs) h) (units-by t z (first .next) s ys)
+        ap₂ (λ (x y : ℕ). beside (second .refusal) (x + y)) (replay-lost xs ∙ sym (beside-none (first .refusal) (lostBy (used t) q xs) (accepted-none (first .refusal) h))) (units-by t z (first .next) s ys)
         ∙ ⊎-elim
         (λ (k : accepted (second .refusal) ≡ true).
-        ap (λ (y : ℕ). beside (second .refusal) (lostBy (used t) q xs + y)) (beside-yes (second .refusal) more k)
+        ap (λ (y : ℕ). beside (second .refusal) (lostBy (used t) q xs + y)) (sym (beside-none (second .refusal) more (accepted-none (second .refusal) k)))
         ∙ ap (beside (second .refusal)) (sym (join-lost (used t) q xs ys (accepted-none (first .refusal) h))))
         (λ (k : accepted (second .refusal) ≡ false).
-        beside-not (second .refusal) (lostBy (used t) q xs + beside (second .refusal) more) k ∙ sym (beside-not (second .refusal) (lostBy (used t) q (xs ++ ys)) k))
+        sym (beside-not (second .refusal) (lostBy (used t) q xs + beside (second .refusal) more) k) ∙ beside-not (second .refusal) (lostBy (used t) q (xs ++ ys)) k)
         (split (accepted (second .refusal)))
         ∙ ap (λ (o : Outcome). beside (o .refusal) (lostBy (used t) q (xs ++ ys))) (sym (goes-on h))
         ∙ sym (replay-lost (xs ++ ys))

@@ -1,18 +1,15 @@
 -- The answers of lost units, from what the code has found on each way out.
 -- Assumes nothing.
-use mathlib.Core.Path.{_≡_, refl, sym, ap, _∙_}
-use mathlib.Core.Logic.{⊎-elim}
-use mathlib.Core.Bool.{true, false}
+use mathlib.Core.Path.{_≡_, refl, ap, _∙_}
 use mathlib.Core.List.{List}
 use Prim.Native.Nat.{ℕ}
 use lib.ListN.{length}
 use Rattle.refusal.specs.declared.Refusal.{Refusal}
 use Rattle.refusal.specs.declared.Refusal.the-variants.{None}
-use Rattle.refusal.specs.Order.{accepted, orElse, beside}
-use Rattle.refusal.proofs.Order.{Told, accepted-none, keeps, passes, beside-refused}
+use Rattle.refusal.specs.Order.{orElse, beside}
+use Rattle.refusal.proofs.Order.{Told, keeps, passes, beside-refused}
 use Rattle.table.specs.declared.Table.{Table}
 use Rattle.table.specs.Rows.{used}
-use Rattle.rule.proofs.Tests.{split}
 use Rattle.slots.specs.declared.Record.{Record}
 use Rattle.slots.specs.declared.Started.{Started}
 use Rattle.slots.specs.declared.Lost.{Lost}
@@ -24,7 +21,7 @@ use Rattle.slots.specs.History.{logged, reported}
 use Rattle.slots.specs.LostUnits.{lostUnits, lostRefusal, lostFrom, lostFresh}
 use Rattle.slots.specs.Turns.{admittedOf, Steady, lostBy}
 use Rattle.slots.proofs.SoundRecord.{table-usable}
-use Rattle.slots.proofs.LostSum.{lost-sum}
+use Rattle.slots.proofs.LostSum.{lost-beside}
 use Rattle.slots.proofs.Admittance.{admitted-refusal, record-none, admitted-steady}
 use Rattle.slots.proofs.Settled.{stands-sound}
 
@@ -45,12 +42,9 @@ module _ (t : Table) (q : Record) (a : Admitted) (e : a ≡ admittedOf t q) (rep
     -- beside an acceptance, what the slots have lost one by one is the sum over the jobs
     same : (f : Refusal) → f ≡ runOf (used t) q reps .refusal
         → beside f (lostBy (used t) q reps) ≡ beside f (lostUnits (used t) q (logged (runOf (used t) q reps .log)) (reported reps) (length reps))
-    unfolding beside
     same f h =
         let steady : Steady t (a .cycle) q = admitted-steady t q a e d in
-        ⊎-elim (λ (z : accepted f ≡ true).
-        ap (beside f) (lost-sum (used t) (table-usable t (steady .table)) q (stands-sound steady sixteen) reps (sym h ∙ accepted-none f z)))
-        (λ (z : accepted f ≡ false). rw z refl) (split (accepted f))
+        lost-beside (used t) (table-usable t (steady .table)) q (stands-sound steady sixteen) reps f h
 
     pub lost-done : (r : Lost) → r .refusal ≡ runOf (used t) q reps .refusal → r .units ≡ beside (r .refusal) (lostBy (used t) q reps) → r ≡ lostFrom t q reps
     unfolding lostRefusal

@@ -3,7 +3,7 @@
 use mathlib.Core.Path.{_≡_, refl, sym, ap}
 use mathlib.Core.Logic.{⊎-elim}
 use mathlib.Core.Bool.{true, false}
-use mathlib.Core.List.{List}
+use mathlib.Core.List.{List, [], _∷_}
 use Prim.Native.Nat.{ℕ, suc, _+_, _≤_, _<_}
 use native.Mathlib.Nat.{le-of-dvd}
 use native.Mathlib.Omega.{arith}
@@ -21,16 +21,16 @@ use Rattle.slots.specs.Records.{jobAt}
 use Rattle.slots.specs.OneSlot.{Work, idle, primary, alternate, what, worked, nextClock, renewed, stepBy, stepOf}
 use Rattle.slots.specs.History.{isPrimary}
 use Rattle.slots.specs.LostUnits.{sum}
-use Rattle.slots.specs.Turns.{openOf, lossAt}
+use Rattle.slots.specs.Turns.{openOf, lossAt, lostBy}
 use Rattle.slots.proofs.JobFacts.{fits-units}
 use Rattle.slots.proofs.Entries.{worked-length, renewed-start, renewed-on}
 use Rattle.slots.proofs.SoundRecord.{Usable, Sound}
 use Rattle.slots.proofs.SlotActs.{InRows, allowed-row, act-of}
-use Rattle.slots.proofs.StaysSound.{what-allowed}
+use Rattle.slots.proofs.StaysSound.{what-allowed, step-sound}
 use Rattle.slots.proofs.JobStory.{primary-is}
 use Rattle.slots.proofs.Sums.{sum-zero, sum-one, sum-less, sum-most, sum-both}
 use Rattle.slots.proofs.LostJobs.{lossOf, open-run, open-new, loss-act}
-use Rattle.slots.proofs.LostRows.{loss-rows}
+use Rattle.slots.proofs.LostRows.{loss-rows, by-none, by-more}
 
 -- the primary units run by the rows' waiting jobs
 unfoldable pub openUnits : List Row → List Job → ℕ
@@ -112,3 +112,8 @@ module _ (rs : List Row) (ok : Usable rs) (q : Record) (s : Sound rs q) where
               le-of-dvd (ok .cycle) (cycle-multiple rs k row),
             )),
       )
+
+-- a list of reports, slot by slot
+pub lost-most : (rs : List Row) → Usable rs → (q : Record) → Sound rs q → (reps : List ℕ) → lostBy rs q reps ≤ length reps + openUnits rs (q .jobs)
+lost-most rs ok q s [] = omega (arith, by-none rs q)
+lost-most rs ok q s (rep ∷ reps) = omega (arith, by-more rs q rep reps, loss-open rs ok q s rep, lost-most rs ok (stepOf rs q rep) (step-sound rs ok q rep s) reps)

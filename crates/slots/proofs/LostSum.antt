@@ -2,17 +2,21 @@
 -- Assumes nothing.
 use mathlib.Core.Path.{_≡_, sym, ap, _∙_, subst}
 use mathlib.Core.Logic.{_⊎_, inl, inr, ⊎-elim}
+use mathlib.Core.Bool.{true, false}
 use mathlib.Core.List.{List, [], _∷_}
 use Prim.Native.Nat.{ℕ, zero, suc, _+_, _-_, _≤_, _<_, min}
 use native.Mathlib.Omega.{arith}
 use lib.ListN.{length, List·getD-eq-default}
+use Rattle.refusal.specs.declared.Refusal.{Refusal}
 use Rattle.refusal.specs.declared.Refusal.the-variants.{None}
+use Rattle.refusal.specs.Order.{accepted, beside}
+use Rattle.refusal.proofs.Order.{accepted-none, beside-not}
 use Rattle.table.specs.declared.Row.{Row}
 use Rattle.table.specs.Rows.{rowAt}
 use Rattle.table.specs.Windows.{opens, closes}
 use Rattle.table.proofs.Good.{Good}
 use Rattle.table.proofs.Windows.{closes-none, opens-after, opens-first}
-use Rattle.rule.proofs.Tests.{side}
+use Rattle.rule.proofs.Tests.{split, side}
 use Rattle.slots.specs.declared.Job.{Job}
 use Rattle.slots.specs.declared.Record.{Record}
 use Rattle.slots.specs.Records.{jobAt}
@@ -173,3 +177,10 @@ lost-sum rs ok q s reps h =
     ∙ sum-same (λ t. lossAt (recAfter rs q reps t .jobs) (what rs (recAfter rs q reps t))) (λ t. lossAt (recAfter rs q reps t .jobs) (logged log t)) (length reps)
     (λ t l. ap (lossAt (recAfter rs q reps t .jobs)) (sym (log-tells rs (ok .few) q reps t (omega (arith, whole)))))
     ∙ course-lost rs ok q s (length reps) (recAfter rs q reps) (logged log) (reported reps) course (λ t l. ap workOf (List·getD-eq-default log 0 (omega (arith, whole))))
+
+-- and they are so beside the run's refusal, where both are 0 if a report is refused
+pub lost-beside : (rs : List Row) → Usable rs → (q : Record) → Sound rs q → (reps : List ℕ) (f : Refusal) → f ≡ runOf rs q reps .refusal
+    → beside f (lostBy rs q reps) ≡ beside f (lostUnits rs q (logged (runOf rs q reps .log)) (reported reps) (length reps))
+lost-beside rs ok q s reps f h =
+    ⊎-elim (λ (z : accepted f ≡ true). ap (beside f) (lost-sum rs ok q s reps (sym h ∙ accepted-none f z)))
+    (λ (z : accepted f ≡ false). sym (beside-not f _ z) ∙ beside-not f _ z) (split (accepted f))

@@ -64,7 +64,8 @@ fn call_firsts(s: &[u8]) {
 }
 
 fn call_clock(s: &[u8]) {
-    let got = reserve::from_clock(form::table_of(s), form::word(s, 101), form::lefts_of(s));
+    let q = form::record_of(s);
+    let got = reserve::from_clock(form::table_of(s), q.clock, form::lefts_of(q));
     let f = got.refusal;
     print::head(b"clock", f);
     print::number(got.cycle as u64);

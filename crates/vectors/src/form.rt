@@ -110,12 +110,12 @@ pub(crate) fn record_of(s: &[u8]) -> Record {
     Record { clock, jobs }
 }
 
-// The units left of the record's entries.
-pub(crate) fn lefts_of(s: &[u8]) -> [u16; 16] {
+// The units left of a record's entries.
+pub(crate) fn lefts_of(q: Record) -> [u16; 16] {
     let mut left = [0u16; 16];
     let mut i: usize = 0;
     while i < 16 {
-        left[i] = word(s, 106 + 5 * i);
+        left[i] = q.jobs[i].left;
         i += 1;
     }
     left

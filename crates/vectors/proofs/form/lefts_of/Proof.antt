@@ -6,25 +6,22 @@ use Rattle.vectors.proofs.form.lefts_of.Statement.{statement}
 use Rattle.vectors.proofs.form.lefts_of.Tie as tie
 
 abbrev Inv-loop : tie.InvT-loop
-Inv-loop s left₀ i₀ left i = i ≤ 16
+Inv-loop q left₀ i₀ left i = i ≤ 16
 
 abbrev μ-loop : tie.MeasureT-loop
-μ-loop s left₀ i₀ left i = 16 - i
+μ-loop q left₀ i₀ left i = 16 - i
 
 loop-holds : tie.Need-loop-holds Inv-loop μ-loop
 loop-holds c = search needs
 
-mul-word : tie.Need-mul-word Inv-loop μ-loop
-mul-word c = search needs
-
-add-word : tie.Need-add-word Inv-loop μ-loop
-add-word c = search needs
-
-word-requires : tie.Need-word-requires Inv-loop μ-loop
-word-requires c κs = search needs
-
 mul-left : tie.Need-mul-left Inv-loop μ-loop
 mul-left c = search needs
+
+element-copy-out-left : tie.Need-element-copy-out-left Inv-loop μ-loop
+element-copy-out-left c = search needs
+
+mul-left-2 : tie.Need-mul-left-2 Inv-loop μ-loop
+mul-left-2 c = search needs
 
 array-write-left : tie.Need-array-write-left Inv-loop μ-loop
 array-write-left c = search needs
@@ -48,10 +45,9 @@ lefts-of-spec =
     Inv-loop
     μ-loop
     loop-holds
-    mul-word
-    add-word
-    word-requires
     mul-left
+    element-copy-out-left
+    mul-left-2
     array-write-left
     add-i
     loop-less
