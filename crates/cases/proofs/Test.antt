@@ -15,7 +15,7 @@ use Rattle.tablefile.specs.Layout.{fileBytes}
 use Rattle.tablefile.specs.Answers.{readAs}
 use Rattle.tablefile.proofs.RoundTrips.{same-row}
 use Rattle.slots.specs.Answers.{askedOf}
-use Rattle.cases.specs.Cases.{Case, checked, cycling, loading, starting, holding, reading, writing, running, moving, asking, table, load, places, fromFresh, logFromFresh, firstAfter, Claim, Each}
+use Rattle.cases.specs.Cases.{Case, checked, cycling, loading, starting, holding, reading, writing, running, moving, asking, table, needed, places, fromFresh, logFromFresh, firstAfter, Claim, Each}
 
 -- ---- the test
 unfoldable pub same : List ℕ → List ℕ → Bool
@@ -33,7 +33,7 @@ sameRows (x ∷ xs) (y ∷ ys) = eqb (x .period) (y .period) && (eqb (x .primary
 unfoldable pub passes : Case → Bool
 passes (checked rs n k c) = eqb (numberOf (tableCheck (table rs) .refusal)) n && (eqb (rowOf (tableCheck (table rs) .refusal)) k && eqb (tableCheck (table rs) .cycle) c)
 passes (cycling rs c) = eqb (cycleOf (used (table rs))) c
-passes (loading rs c) = eqb (load (used (table rs))) c
+passes (loading rs m c) = eqb (needed (used (table rs))) m && eqb (cycleOf (used (table rs))) c
 passes (starting rs xs) = same (firstSlots (used (table rs))) xs
 passes (holding rs k xs) = same (places k 0 (reservationList (used (table rs)))) xs
 passes (reading s n rs) =
@@ -43,9 +43,11 @@ passes (running rs reps n m log) = eqb (numberOf (fromFresh rs reps .refusal)) n
 passes (moving rs reps k s) = eqb (firstAfter rs reps (k - 1)) s
 passes (asking rs q n) = eqb (numberOf (askedOf (table rs) q .refusal)) n
 
-unfoldable pub all : List Case → Bool
-all [] = true
-all (x ∷ xs) = passes x && all xs
+-- passed by each case of a list
+infixr 20 _then_
+pub data All : List Case → Type 0 where
+  none : All []
+  _then_ : {x : Case} {xs : List Case} → T (passes x) → All xs → All (x ∷ xs)
 
 -- ---- what it says
 both : (a b : Bool) → T (a && b) → T a × T b
@@ -87,7 +89,9 @@ passed (checked rs n k c) p =
     let q = three (numberOf (got .refusal)) n (rowOf (got .refusal)) k (eqb (got .cycle) c) p in
     (q .0, q .1, eqb→eq (got .cycle) c (q .2))
 passed (cycling rs c) p = eqb→eq (cycleOf (used (table rs))) c p
-passed (loading rs c) p = eqb→eq (load (used (table rs))) c p
+passed (loading rs m c) p =
+    let q = both (eqb (needed (used (table rs))) m) (eqb (cycleOf (used (table rs))) c) p in
+    (eqb→eq (needed (used (table rs))) m (q .0), eqb→eq (cycleOf (used (table rs))) c (q .1))
 passed (starting rs xs) p = same-is (firstSlots (used (table rs))) xs p
 passed (holding rs k xs) p = same-is (places k 0 (reservationList (used (table rs)))) xs p
 passed (reading s n rs) p =
@@ -102,7 +106,7 @@ passed (running rs reps n m log) p =
 passed (moving rs reps k s) p = eqb→eq (firstAfter rs reps (k - 1)) s p
 passed (asking rs q n) p = eqb→eq (numberOf (askedOf (table rs) q .refusal)) n p
 
-pub all-passed : (xs : List Case) → T (all xs) → Each xs
-unfolding all Each
-all-passed [] p = tt
-all-passed (x ∷ xs) p = let q = both (passes x) (all xs) p in (passed x (q .0), all-passed xs (q .1))
+pub all-passed : (xs : List Case) → All xs → Each xs
+unfolding Each
+all-passed [] none = tt
+all-passed (x ∷ xs) (p then ps) = (passed x p, all-passed xs ps)

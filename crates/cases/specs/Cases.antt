@@ -49,8 +49,8 @@ pub data Case : Type 0 where
   checked : List Row → ℕ → ℕ → ℕ → Case
   -- the least common multiple of the periods
   cycling : List Row → ℕ → Case
-  -- the slots of a cycle that its jobs claim: the load is their share of the cycle
-  loading : List Row → ℕ → Case
+  -- the load, as the slots of a cycle that the alternates of its jobs need, and the cycle
+  loading : List Row → ℕ → ℕ → Case
   -- a table's first slots, rows in order
   starting : List Row → List ℕ → Case
   -- the slots that a row, counted from 1, holds
@@ -66,9 +66,9 @@ pub data Case : Type 0 where
   -- a record's number of refusal
   asking : List Row → Record → ℕ → Case
 
--- what the alternates of all jobs of a cycle take
-unfoldable pub load : List Row → ℕ
-load rs = sum (λ k. rowAt rs k .alternate * (cycleOf rs / rowAt rs k .period)) (length rs)
+-- the slots that the alternates of a cycle's jobs need
+unfoldable pub needed : List Row → ℕ
+needed rs = sum (λ k. rowAt rs k .alternate * (cycleOf rs / rowAt rs k .period)) (length rs)
 
 -- the places of the byte k in a list whose first place is s
 unfoldable pub places : ℕ → ℕ → List ℕ → List ℕ
@@ -93,7 +93,7 @@ unfoldable pub Claim : Case → Type 0
 Claim (checked rs n k c) =
     (numberOf (tableCheck (table rs) .refusal) ≡ n) × (rowOf (tableCheck (table rs) .refusal) ≡ k) × (tableCheck (table rs) .cycle ≡ c)
 Claim (cycling rs c) = cycleOf (used (table rs)) ≡ c
-Claim (loading rs c) = load (used (table rs)) ≡ c
+Claim (loading rs m c) = (needed (used (table rs)) ≡ m) × (cycleOf (used (table rs)) ≡ c)
 Claim (starting rs xs) = firstSlots (used (table rs)) ≡ xs
 Claim (holding rs k xs) = places k 0 (reservationList (used (table rs))) ≡ xs
 Claim (reading s n rs) = (numberOf (readAs s .refusal) ≡ n) × (readAs s .table .n ≡ length rs) × (readAs s .table .rows ≡ table rs .rows)
@@ -136,8 +136,7 @@ cases =
     ∷ moving pair (0 ∷ 1 ∷ []) 2 4
     -- P4: refused, though the load is exactly 1
     ∷ checked tight 7 2 0
-    ∷ cycling tight 12
-    ∷ loading tight 12
+    ∷ loading tight 12 12
     -- P5: accepted, though the load is over the quoted bound
     ∷ checked (row 4 1 2 ∷ row 6 1 2 ∷ []) 0 0 12
     ∷ holding (row 4 1 2 ∷ row 6 1 2 ∷ []) 2 (4 ∷ 5 ∷ 8 ∷ 9 ∷ [])

@@ -22,7 +22,7 @@ use Rattle.slots.specs.declared.Ran.{Ran}
 use Rattle.slots.specs.declared.Lost.{Lost}
 use Rattle.slots.specs.Records.{freshRecord}
 use Rattle.slots.specs.Reports.{Outcome, runOf}
-use Rattle.slots.specs.Answers.{outcomeOf, ranBy, logAfter}
+use Rattle.slots.specs.Answers.{outcomeOf, told, ranBy, logAfter}
 use Rattle.slots.specs.LostUnits.{lostFrom, lostFresh}
 use Rattle.slots.specs.Turns.{lostBy}
 use Rattle.slots.proofs.SoundRecord.{Sound, table-usable}
@@ -30,7 +30,7 @@ use Rattle.slots.proofs.RunFacts.{run-short}
 use Rattle.slots.proofs.LostBound.{lost-most, open-few}
 use Rattle.slots.proofs.AnswerCases.{outcome-run}
 use Rattle.replay.specs.declared.Progress.{Progress}
-use Rattle.replay.specs.Chunks.{replayOf, told, movedOn, onwardOf, chunkLog, logOnward}
+use Rattle.replay.specs.Chunks.{replayOf, movedOn, onwardOf, chunkLog, logOnward}
 use Rattle.replay.specs.Lines.{logLines, chunkLines}
 use Rattle.replay.specs.Turns.{Laid, Replayed}
 use Rattle.replay.proofs.Laying.{laid-is}

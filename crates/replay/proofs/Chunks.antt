@@ -21,7 +21,7 @@ use Rattle.slots.specs.Records.{freshOf, freshRecord, startedFor}
 use Rattle.slots.specs.Sound.{recordRefusal}
 use Rattle.slots.specs.Reports.{Outcome, runOf}
 use Rattle.slots.specs.History.{logged, reported}
-use Rattle.slots.specs.Answers.{ranBy}
+use Rattle.slots.specs.Answers.{told, ranBy}
 use Rattle.slots.specs.LostUnits.{lostUnits, lostRefusal, lostFrom, lostFresh}
 use Rattle.slots.specs.Turns.{lostBy}
 use Rattle.slots.proofs.SoundRecord.{Sound, table-usable, sound-if, sound-none}
@@ -33,7 +33,7 @@ use Rattle.slots.proofs.LostSum.{lost-beside}
 use Rattle.slots.proofs.JoinedLost.{join-lost}
 use Rattle.slots.proofs.AnswerCases.{outcome-run}
 use Rattle.replay.specs.declared.Progress.{Progress}
-use Rattle.replay.specs.Chunks.{replayOf, replayLog, startOf, told, movedOn, onwardOf, chunkLog, afterChunks, chunksLog, joined}
+use Rattle.replay.specs.Chunks.{replayOf, replayLog, startOf, movedOn, onwardOf, chunkLog, afterChunks, chunksLog, joined}
 
 -- ---- lost units from a sound record of an accepted table, kept slot by slot
 module _ (t : Table) (z : tableRefusal t ≡ None) (q : Record) (s : Sound (used t) q) where

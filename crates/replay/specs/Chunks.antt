@@ -11,6 +11,7 @@ use Rattle.table.specs.Rows.{used}
 use Rattle.slots.specs.declared.Ran.{Ran}
 use Rattle.slots.specs.Records.{freshRecord}
 use Rattle.slots.specs.Reports.{Outcome, runOf}
+use Rattle.slots.specs.Answers.{told}
 use Rattle.slots.specs.LostUnits.{lostFrom, lostFresh}
 use Rattle.replay.specs.declared.Progress.{Progress}
 
@@ -28,10 +29,6 @@ replayLog t reps = runOf (used t) (freshRecord t) reps .log
 -- no report has been read
 unfoldable pub startOf : Table → Progress
 startOf t = record { refusal = None; slots = 0; lost = 0; next = freshRecord t }
-
--- what a run answers of its outcome: 'the number, the slots accepted, the record after them'
-abbrev pub told : Outcome → Ran
-told o = record { refusal = o .refusal; slots = length (o .log); next = o .next }
 
 -- with what the run of one more chunk answers, and its lost units
 unfoldable pub movedOn : Progress → Ran → ℕ → Progress

@@ -18,9 +18,9 @@ unfoldable pub decimalIn : ℕ → ℕ → List ℕ
 decimalIn zero n = glyph (n % 10) ∷ []
 decimalIn (suc f) n = cond (ltb n 10) (glyph n ∷ []) (decimalIn f (n / 10) ++ glyph (n % 10) ∷ [])
 
--- 20 digits are enough for every number of 64 bits
+-- no number has more digits than n + 1
 abbrev pub decimal : ℕ → List ℕ
-decimal n = decimalIn 19 n
+decimal n = decimalIn n n
 
 -- a word and a number
 abbrev pub named : String → ℕ → List ℕ

@@ -42,10 +42,11 @@ unfoldable pub outcomeOf : Table → Record → List ℕ → List ℕ → Outcom
 outcomeOf t q reps old = cond (accepted (entryRefusal t q reps old)) (runOf (used t) q reps) (stopped (entryRefusal t q reps old) q)
 
 -- 'it answers the number, the slots accepted, the record after them'
+abbrev pub told : Outcome → Ran
+told o = record { refusal = o .refusal; slots = length (o .log); next = o .next }
+
 unfoldable pub ranBy : Table → Record → List ℕ → List ℕ → Ran
-ranBy t q reps old =
-    let o : Outcome = outcomeOf t q reps old in
-    record { refusal = o .refusal; slots = length (o .log); next = o .next }
+ranBy t q reps old = told (outcomeOf t q reps old)
 
 -- 'and their log bytes, later bytes untouched'
 unfoldable pub logAfter : Table → Record → List ℕ → List ℕ → List ℕ

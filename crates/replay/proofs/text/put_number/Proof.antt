@@ -28,8 +28,9 @@ returns : tie.Need-returns
 returns c =
     let start = c .before .before .before .before .before .before .before .before in
     let spelled = c .before .before .before .before .before .decimal in
-    let laid = number-laid _ (start .args .n) (spelled .result) (start .fits .n .fits) (spelled .ensures .1 .0) (spelled .ensures .1 .1) (c .before .before .put-bytes .ensures) in
-    (laid, number-short (start .args .n) laid)
+    let few = spelled .ensures .1 .0 in
+    let laid = number-laid _ (start .args .n) (spelled .result) (start .fits .n .fits) few (spelled .ensures .1 .1) (c .before .before .put-bytes .ensures) in
+    (laid, number-short _ (start .args .n) (spelled .result) (start .fits .n .fits) few (spelled .ensures .1 .1) laid)
 
 pub put-number-spec : {M : Type 1} → statement M
 put-number-spec =
