@@ -70,8 +70,8 @@ impl Draft {
         self
     }
 
-    /// The body: each argument at its place. "Zeros at a body's end may be left out, but for those of a file or of a
-    /// list of reports."
+    /// The body: each argument at its place; "zeros at a body's end may be left out, but for those of a file or of a
+    /// list of reports".
     pub fn body(&self) -> Vec<u8> {
         let mut body = vec![self.kind, self.fill];
         body.extend_from_slice(&self.room.to_be_bytes());
