@@ -1,7 +1,8 @@
 //! The answer line of a case.
 
 use crate::file;
-use crate::form::{Body, Input, Next, RECORD_PLACE, REPORT_PLACE, TABLE_PLACE};
+use crate::form::{Body, Input, Next, RECORD_PLACE, REPORT_PLACE, RUN_REPORT_PLACE, TABLE_PLACE};
+use crate::kept;
 use crate::record::{self, Record, State};
 use crate::refusal::{self, Refusal};
 use crate::rule;
@@ -172,7 +173,7 @@ fn waiting(body: &Body) -> Fields {
     let record = body.record();
     match record::check(&body.table(), &record) {
         Ok(checked) => {
-            let rows = record::waiting(&checked, &record);
+            let rows: Vec<u8> = record::waiting(&checked, &record).collect();
             let set: u32 = rows.iter().map(|row| 1 << (row - 1)).sum();
             let taken = rows.first().copied().unwrap_or(0);
             (refusal::NONE, format!("{} {} {}", set, taken, rows.len()))
@@ -192,21 +193,15 @@ fn step(body: &Body) -> Fields {
     }
 }
 
-/// `run N R S RECORD BYTES`: 9, then 8, for "The log needs as many bytes as there are reports", then slot by slot.
+/// `run N R S RECORD BYTES BYTES`
 fn run(body: &Body) -> Fields {
-    let reports = body.list_at(REPORT_PLACE);
-    let given = body.record();
-    let course = record::check(&body.table(), &given).and_then(|checked| {
-        if reports.len() > body.room() {
-            return Err(refusal::ROOM);
-        }
-        Ok(run::course(&checked, &given, reports))
-    });
-    let (refusal, record, log) = match course {
-        Ok(course) => (course.refusal, course.record, course.log),
-        Err(refusal) => (refusal, given, Vec::new()),
-    };
-    (refusal, format!("{} {} {}", log.len(), record_text(&record), hexadecimal(body, &log)))
+    let (room, buffer_room) = (body.room(), body.buffer_room());
+    let mut log = lent(body, room);
+    let mut buffer = lent(body, buffer_room);
+    let reports = body.list_at(RUN_REPORT_PLACE);
+    let ran = kept::run(&body.table(), &body.record(), reports, &mut log[..room], &mut buffer[..buffer_room]);
+    let record = record_text(&ran.record);
+    (ran.refusal, format!("{} {} {} {}", ran.slots, record, hexadecimal(&log), hexadecimal(&buffer)))
 }
 
 /// `lost N R U`, from a record
@@ -245,18 +240,19 @@ fn within<T>(room: usize, wanted: Result<Vec<T>, Refusal>) -> (Refusal, Vec<T>) 
 /// The fields `U BYTES` of the kinds that write a list of bytes to the lent ones.
 fn lent_bytes(body: &Body, wanted: Result<Vec<u8>, Refusal>) -> Fields {
     let (refusal, used) = within(body.room(), wanted);
-    (refusal, format!("{} {}", used.len(), hexadecimal(body, &used)))
+    let mut bytes = lent(body, body.room());
+    bytes[..used.len()].copy_from_slice(&used);
+    (refusal, format!("{} {}", used.len(), hexadecimal(&bytes)))
 }
 
-/// The lent bytes and the next four after the call: the used ones, and past them those that "stay as they were".
-fn hexadecimal(body: &Body, used: &[u8]) -> String {
-    let mut text = String::new();
-    for place in 0..body.room() + NOT_LENT {
-        let before = ((usize::from(body.fill()) + place) % 256) as u8;
-        let after = used.get(place).copied().unwrap_or(before);
-        text.push_str(&format!("{:02x}", after));
-    }
-    text
+/// So many lent bytes before the call, and the next four: "place i, from 0, holds (fill + i) mod 256".
+fn lent(body: &Body, room: usize) -> Vec<u8> {
+    (0..room + NOT_LENT).map(|place| ((usize::from(body.fill()) + place) % 256) as u8).collect()
+}
+
+/// Each byte as "two [...] hexadecimal digits in lower case, with nothing between places".
+fn hexadecimal(bytes: &[u8]) -> String {
+    bytes.iter().map(|byte| format!("{:02x}", byte)).collect()
 }
 
 /// "`RECORD` is the clock and then sixteen fields of a state's letter, w waiting, f failed, d done, u, `/` and the

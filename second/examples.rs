@@ -5,6 +5,7 @@ use crate::cases::{self, draft::table_of, fixed_examples::p1};
 use crate::counts;
 use crate::file;
 use crate::form::{Input, Next};
+use crate::kept;
 use crate::record::{self, Entry, Record, State};
 use crate::refusal::{self, Refusal};
 use crate::rule;
@@ -160,6 +161,33 @@ fn lent_memory_keeps_what_is_not_used() {
     // (2,1,1) with a fill of 254 and a room of 3: two bytes are used.
     let case = [0, 11, 4, 254, 0, 3, 1, 0, 2, 0, 1, 0, 1];
     assert_eq!(lines(&case), "list 0 0 2 00010001020304\n");
+}
+
+#[test]
+fn form_of_a_run() {
+    // (2,1,1) from fresh with a fill of 254: one byte of log, and three of buffer, of which two are used.
+    let mut case = vec![0, 186, 13, 254, 0, 1, 1, 0, 2, 0, 1, 0, 1];
+    case.resize(2 + 101, 0);
+    case.extend_from_slice(&[0, 0, 0, 0, 0, 0, 1]);
+    case.resize(2 + 183, 0);
+    case.extend_from_slice(&[0, 3, 0]);
+    let record = "1 f1/1".to_string() + &" w0/0".repeat(15);
+    assert_eq!(lines(&case), format!("run 0 0 1 {} 01ff000102 00010001020304\n", record));
+    // With one of buffer it is refused, and both are as they were.
+    case[2 + 184] = 1;
+    let record = "0 w0/1".to_string() + &" w0/0".repeat(15);
+    assert_eq!(lines(&case), format!("run 8 0 0 {} feff000102 feff000102\n", record));
+}
+
+#[test]
+fn p3_buffer_after_slot_1() {
+    let mut log = [0; 2];
+    let mut buffer = [99; 31];
+    let ran = kept::run(&p1(), &record::fresh(p1().used()), &[0, 1], &mut log, &mut buffer);
+    assert_eq!((ran.refusal, ran.slots, log), (refusal::NONE, 2, [1, 1]));
+    assert_eq!(held(&buffer, 1), [9, 14, 19, 24, 29]);
+    assert_eq!(held(&buffer, 2), [4, 5, 10, 11, 16, 17, 22, 23, 27, 28]);
+    assert_eq!(held(&buffer, 99), [30]);
 }
 
 #[test]

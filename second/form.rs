@@ -13,6 +13,10 @@ pub const TABLE_PLACE: usize = 4;
 pub const RECORD_PLACE: usize = 101;
 pub const REPORT_PLACE: usize = 183;
 
+/// Where a run has its buffer's room, and its reports after that.
+pub const BUFFER_PLACE: usize = 183;
+pub const RUN_REPORT_PLACE: usize = 185;
+
 /// What comes next in an input: a case's body, or a reason to stop.
 #[derive(Debug, PartialEq, Eq)]
 pub enum Next<'a> {
@@ -84,7 +88,15 @@ impl<'a> Body<'a> {
     }
 
     pub fn room(&self) -> usize {
-        usize::from(self.word(2)).min(LARGEST_ROOM)
+        self.room_at(2)
+    }
+
+    pub fn buffer_room(&self) -> usize {
+        self.room_at(BUFFER_PLACE)
+    }
+
+    fn room_at(&self, place: usize) -> usize {
+        usize::from(self.word(place)).min(LARGEST_ROOM)
     }
 
     /// "n, one byte, and then sixteen rows, whatever n is, of period, p and a, two bytes each"

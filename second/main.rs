@@ -1,6 +1,9 @@
-//! The second program: it makes cases for the entries of the library, and answers cases by the rules of document 01
-//! alone, in the plainest way. Its answers are there to be compared with the library's.
+//! The second program: it makes cases for the entries of the library, and answers cases by the rules alone, in the
+//! plainest way but for the run, which keeps its reservations as it must. Its answers are there to be compared with the
+//! library's.
 
+#[cfg(test)]
+mod anew;
 mod answers;
 mod cases;
 mod counts;
@@ -8,6 +11,7 @@ mod counts;
 mod examples;
 mod file;
 mod form;
+mod kept;
 mod numbers;
 mod record;
 mod refusal;

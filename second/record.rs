@@ -75,12 +75,7 @@ pub fn reserve(checked: &Checked, record: &Record) -> rule::Reserved {
 }
 
 /// The numbers, from 1, of the waiting rows, lowest first.
-pub fn waiting(checked: &Checked, record: &Record) -> Vec<u8> {
-    let mut rows = Vec::new();
-    for (index, entry) in record.entries.iter().take(checked.rows.len()).enumerate() {
-        if entry.state == State::Waiting {
-            rows.push(index as u8 + 1);
-        }
-    }
-    rows
+pub fn waiting<'a>(checked: &Checked, record: &'a Record) -> impl Iterator<Item = u8> + 'a {
+    let entries = record.entries[..checked.rows.len()].iter();
+    entries.zip(1..).filter(|(entry, _)| entry.state == State::Waiting).map(|(_, row)| row)
 }

@@ -42,35 +42,49 @@ pub fn log_byte(work: Work) -> u8 {
 /// lowest-numbered waiting row's primary, otherwise nothing.
 pub fn what_runs(checked: &Checked, record: &Record) -> Work {
     let holder = record::reserve(checked, record).holders[usize::from(record.clock)];
+    work_under(holder, checked, record)
+}
+
+/// What runs at the clock where its slot is reserved for this row, or for none, 0.
+#[inline]
+pub fn work_under(holder: u8, checked: &Checked, record: &Record) -> Work {
     if holder != 0 {
         return Work::Alternate(holder);
     }
-    match record::waiting(checked, record).first() {
-        Some(row) => Work::Primary(*row),
+    match record::waiting(checked, record).next() {
+        Some(row) => Work::Primary(row),
         None => Work::Idle,
     }
 }
 
-/// One slot of a sound record with its report; "10 before 11".
+/// One slot of a sound record with its report.
 pub fn step(checked: &Checked, record: &Record, report: u8) -> Result<Slot, Refusal> {
+    let work = what_runs(checked, record);
+    let mut next = *record;
+    let lost = settle(checked, &mut next, work, report)?;
+    Ok(Slot { work, lost, next })
+}
+
+/// Moves a record on by a slot in which this work runs; "10 before 11", and beside a refusal the record stays. Answers
+/// the slot's lost units.
+#[inline]
+pub fn settle(checked: &Checked, record: &mut Record, work: Work, report: u8) -> Result<u64, Refusal> {
     if report > 2 {
         return Err(refusal::REPORT);
     }
-    let work = what_runs(checked, record);
-    let mut next = *record;
     let mut lost = 0;
     match work {
         Work::Primary(name) => {
             let index = usize::from(name) - 1;
-            run_primary(&checked.rows[index], &mut next.entries[index], report);
+            run_primary(&checked.rows[index], &mut record.entries[index], report);
         }
         // "Reports 1 and 2 are only for a primary unit."
         _ if report != 0 => return Err(refusal::STRAY),
-        Work::Alternate(name) => lost = run_alternate(&mut next.entries[usize::from(name) - 1]),
+        Work::Alternate(name) => lost = run_alternate(&mut record.entries[usize::from(name) - 1]),
         Work::Idle => {}
     }
-    move_clock(checked, &mut next);
-    Ok(Slot { work, lost, next })
+    move_clock(checked, record);
+    Ok(lost)
 }
 
 /// "its holder's alternate runs one unit and left falls by 1. A waiting holder becomes failed: its primary is
@@ -98,6 +112,7 @@ fn run_primary(row: &Row, entry: &mut Entry, report: u8) {
 
 /// "Then the clock rises by 1, or goes to 0 at the cycle's end, and each row whose new window starts there becomes
 /// waiting with u 0 and left a."
+#[inline]
 fn move_clock(checked: &Checked, record: &mut Record) {
     record.clock += 1;
     if usize::from(record.clock) == checked.cycle {

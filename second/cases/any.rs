@@ -2,6 +2,7 @@
 
 use super::draft::*;
 use super::{files, records, reports, tables};
+use crate::form::BUFFER_PLACE;
 use crate::numbers::Numbers;
 use crate::record;
 use crate::rule;
@@ -85,8 +86,11 @@ fn table_and_record(numbers: &mut Numbers, draft: &mut Draft) {
             draft.list = blind(numbers);
         }
     }
-    let need = draft.list.len();
-    draft.room = if draft.kind == RUN { room_of_log(numbers, need) as u16 } else { 0 };
+    if draft.kind == RUN {
+        let cycle = table::check_rows(&draft.table).map_or(0, |checked| checked.cycle);
+        draft.room = room_of_run(numbers, draft.list.len()) as u16;
+        draft.buffer = room_of_run(numbers, cycle) as u16;
+    }
 }
 
 fn record_and_reports(numbers: &mut Numbers, draft: &mut Draft, checked: &Checked) {
@@ -99,9 +103,9 @@ fn record_and_reports(numbers: &mut Numbers, draft: &mut Draft, checked: &Checke
     };
 }
 
-/// A log is mostly long enough, so that most runs run.
-fn room_of_log(numbers: &mut Numbers, need: usize) -> usize {
-    match numbers.weighted(&[60, 18, 22]) {
+/// A log and a buffer are mostly long enough, so that most runs run.
+fn room_of_run(numbers: &mut Numbers, need: usize) -> usize {
+    match numbers.weighted(&[70, 18, 12]) {
         0 => need,
         1 => need + numbers.between(1, 8),
         _ => room(numbers, need),
@@ -128,9 +132,9 @@ fn damage(numbers: &mut Numbers, body: &mut Vec<u8>) {
         0 => body.truncate(numbers.below(body.len() + 1)),
         1 => (0..numbers.between(1, 6)).for_each(|_| body.push(numbers.byte())),
         _ => {
-            // The room's high byte stays as it is: a change in it could ask for many thousands of places.
+            // A room's high byte stays as it is: a change in it could ask for many thousands of places.
             let place = numbers.below(body.len().max(1));
-            if let Some(byte) = body.get_mut(place).filter(|_| place != 2) {
+            if let Some(byte) = body.get_mut(place).filter(|_| place != 2 && place != BUFFER_PLACE) {
                 *byte = numbers.byte();
             }
         }

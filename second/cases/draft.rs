@@ -2,7 +2,7 @@
 
 use crate::form::{RECORD_PLACE, REPORT_PLACE, TABLE_PLACE};
 use crate::record::{self, Record, State};
-use crate::table::{Row, Table};
+use crate::table::{self, Row, Table};
 
 pub const GCD: u8 = 1;
 pub const ROWS: u8 = 2;
@@ -26,6 +26,8 @@ pub struct Draft {
     pub kind: u8,
     pub fill: u8,
     pub room: u16,
+    /// The room of a run's buffer.
+    pub buffer: u16,
     pub table: Table,
     pub record: Record,
     /// The byte that stands for done, "anything else" than 0 and 1.
@@ -42,6 +44,7 @@ impl Draft {
             kind,
             fill: 0,
             room: 0,
+            buffer: 0,
             table: Table::zeros(),
             record: record::fresh(&[]),
             done: 2,
@@ -50,9 +53,11 @@ impl Draft {
         }
     }
 
+    /// The table, and with it a buffer of its cycle's length, which only a run has.
     pub fn table(mut self, table: &Table) -> Draft {
         self.table = table.clone();
-        self
+        let cycle = table::check_rows(table).map_or(0, |checked| checked.cycle);
+        self.buffer(cycle)
     }
 
     pub fn record(mut self, record: &Record) -> Draft {
@@ -70,6 +75,11 @@ impl Draft {
         self
     }
 
+    pub fn buffer(mut self, room: usize) -> Draft {
+        self.buffer = room.min(65_535) as u16;
+        self
+    }
+
     /// The body: each argument at its place; "zeros at a body's end may be left out, but for those of a file or of a
     /// list of reports".
     pub fn body(&self) -> Vec<u8> {
@@ -81,6 +91,9 @@ impl Draft {
         if self.list_place() >= REPORT_PLACE {
             self.put_record(&mut body);
         }
+        if self.kind == RUN {
+            body.extend_from_slice(&self.buffer.to_be_bytes());
+        }
         body.extend_from_slice(self.listed());
         let ends_with_list = matches!(self.kind, READ | RUN | LOST | LOST_FRESH) && !self.list.is_empty();
         if !ends_with_list && !self.whole {
@@ -91,7 +104,8 @@ impl Draft {
         body
     }
 
-    /// The place after the table and the record, where the kind has them.
+    /// The place after the table and the record, where the kind has them. Between it and a run's list stands the room of
+    /// its buffer.
     fn list_place(&self) -> usize {
         match self.kind {
             GCD | READ => TABLE_PLACE,

@@ -31,11 +31,11 @@ fn whole(kind: u8) -> Vec<u8> {
     draft.body()
 }
 
-/// The same body cut inside its head, its table and its record: "Bytes that a body doesn't have count as 0."
+/// The same body cut inside its head, its table, its record and what stands behind that: "Bytes that a body doesn't have count as 0."
 fn short(kind: u8) -> Vec<Vec<u8>> {
     let whole = whole(kind);
     let mut bodies = Vec::new();
-    for size in [1, 3, 10, 102, 183] {
+    for size in [1, 3, 10, 102, 183, 184, 185] {
         if size < whole.len() {
             bodies.push(whole[..size].to_vec());
         }

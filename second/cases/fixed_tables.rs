@@ -65,11 +65,11 @@ fn some_faults() -> Vec<Draft> {
     drafts
 }
 
-/// A case whose table is refused. Its record, room and reports would be refused too, but come later in the order.
+/// A case whose table is refused. Its record, rooms and reports would be refused too, but come later in the order.
 fn refused(kind: u8, fault: &Fault) -> Draft {
     let mut record = record_of(65_535, &[]);
     record.entries[0].left = u16::from(fault.number);
-    Draft::new(kind).table(&fault.table).record(&record).list(&[3, 1]).room(1)
+    Draft::new(kind).table(&fault.table).record(&record).list(&[3, 1]).room(1).buffer(1)
 }
 
 fn accepted() -> Vec<Draft> {

@@ -5,6 +5,7 @@ pub mod draft;
 pub mod faults;
 mod files;
 mod fixed;
+mod fixed_buffers;
 pub mod fixed_examples;
 mod fixed_files;
 mod fixed_forms;

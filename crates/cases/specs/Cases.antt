@@ -75,12 +75,12 @@ unfoldable pub places : ℕ → ℕ → List ℕ → List ℕ
 places k s [] = []
 places k s (x ∷ xs) = cond (eqb x k) (s ∷ places k (suc s) xs) (places k (suc s) xs)
 
--- reports from a fresh start, with a lent byte for each: the answer, and the log after
+-- reports from a fresh start, with a lent byte for each, and one for each slot of the cycle: the answer, and the log after
 unfoldable pub fromFresh : List Row → List ℕ → Ran
-fromFresh rs reps = ranBy (table rs) (startedFor (table rs) .start) reps (replicate (length reps) lent)
+fromFresh rs reps = ranBy (table rs) (startedFor (table rs) .start) reps (replicate (length reps) lent) (replicate (cycleOf rs) lent)
 
 unfoldable pub logFromFresh : List Row → List ℕ → List ℕ
-logFromFresh rs reps = logAfter (table rs) (startedFor (table rs) .start) reps (replicate (length reps) lent)
+logFromFresh rs reps = logAfter (table rs) (startedFor (table rs) .start) reps (replicate (length reps) lent) (replicate (cycleOf rs) lent)
 
 -- the first slot that the current job of row i, counted from 0, reserves after them
 unfoldable pub firstAfter : List Row → List ℕ → ℕ → ℕ

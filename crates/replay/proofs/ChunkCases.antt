@@ -28,7 +28,7 @@ use Rattle.slots.specs.Turns.{lostBy}
 use Rattle.slots.proofs.SoundRecord.{Sound, table-usable}
 use Rattle.slots.proofs.RunFacts.{run-short}
 use Rattle.slots.proofs.LostBound.{lost-most, open-few}
-use Rattle.slots.proofs.AnswerCases.{outcome-run}
+use Rattle.slots.proofs.AnswerCases.{has-room, outcome-run}
 use Rattle.replay.specs.declared.Progress.{Progress}
 use Rattle.replay.specs.Chunks.{replayOf, movedOn, onwardOf, chunkLog, logOnward}
 use Rattle.replay.specs.Lines.{logLines, chunkLines}
@@ -66,11 +66,12 @@ module _ (t : Table) (z : tableRefusal t ≡ None) where
     few-lost : p .lost ≤ 2 ^ 60 + 65536
     few-lost = omega (arith, ap (λ (r : Progress). r .lost) (g .gives), replay-few (g .reports) .1, g .few)
 
-    module _ (reps old : List ℕ) (room : length reps ≤ length old) where
-      is-run : outcomeOf t (p .next) reps old ≡ runOf (used t) (p .next) reps
-      is-run = outcome-run t (p .next) reps old (admitted t z (p .next) stands) room
+    -- the buffer is as long as the longest cycle
+    module _ (reps old kept : List ℕ) (room : length reps ≤ length old) (long : length kept ≡ 4096) where
+      is-run : outcomeOf t (p .next) reps old kept ≡ runOf (used t) (p .next) reps
+      is-run = outcome-run t (p .next) reps old kept (admitted t z (p .next) stands) (has-room t reps old kept room (omega (arith, table-accepted t z .cycle)))
 
-      module _ (ran : Ran) (e : ran ≡ ranBy t (p .next) reps old) (lost : Lost) (h : lost ≡ lostFrom t (p .next) reps) where
+      module _ (ran : Ran) (e : ran ≡ ranBy t (p .next) reps old kept) (lost : Lost) (h : lost ≡ lostFrom t (p .next) reps) where
         tells : ran ≡ told (runOf (used t) (p .next) reps)
         unfolding ranBy
         tells = e ∙ ap (λ (o : Outcome). told o) is-run
@@ -85,7 +86,7 @@ module _ (t : Table) (z : tableRefusal t ≡ None) where
         unfolding onwardOf
         onward-none d r f = f ∙ ap₂ (λ (x : Ran) (y : ℕ). movedOn p x y) tells (ap (λ (x : Lost). x .units) h) ∙ rw d refl
 
-      pub log-none : p .refusal ≡ None → (new : List ℕ) → new ≡ logAfter t (p .next) reps old → new ≡ logOnward t p reps old
+      pub log-none : p .refusal ≡ None → (new : List ℕ) → new ≡ logAfter t (p .next) reps old kept → new ≡ logOnward t p reps old
       unfolding logAfter logOnward chunkLog
       log-none d new f = f ∙ ap (λ (o : Outcome). o .log ++ drop (length (o .log)) old) is-run ∙ rw d refl
 

@@ -12,7 +12,7 @@ use Rattle.refusal.specs.Order.{accepted, beside}
 use Rattle.refusal.proofs.Order.{accepted-none, passes, beside-none, beside-not}
 use Rattle.table.specs.declared.Row.{Row}
 use Rattle.table.specs.declared.Table.{Table}
-use Rattle.table.specs.Rows.{used}
+use Rattle.table.specs.Rows.{used, cycleOf}
 use Rattle.rule.proofs.Tests.{split, never}
 use Rattle.reserve.specs.Check.{tableRefusal}
 use Rattle.slots.specs.declared.Record.{Record}
@@ -31,7 +31,7 @@ use Rattle.slots.proofs.JoinedRuns.{after, join-run, join-stopped}
 use Rattle.slots.proofs.LostRows.{by-none}
 use Rattle.slots.proofs.LostSum.{lost-beside}
 use Rattle.slots.proofs.JoinedLost.{join-lost}
-use Rattle.slots.proofs.AnswerCases.{outcome-run}
+use Rattle.slots.proofs.AnswerCases.{has-room, outcome-run}
 use Rattle.replay.specs.declared.Progress.{Progress}
 use Rattle.replay.specs.Chunks.{replayOf, replayLog, startOf, movedOn, onwardOf, chunkLog, afterChunks, chunksLog, joined}
 
@@ -76,11 +76,11 @@ module _ (t : Table) (z : tableRefusal t ≡ None) where
     unfolding replayOf
     replay-sound = next-sound (used t) (table-usable t z) (freshRecord t) starts-sound reps
 
-    -- what the library's `Record::run` from the fresh record and `lost_fresh` answer for the list, with any log that has room for it
-    pub replay-ran : (old : List ℕ) → length reps ≤ length old
-        → ranBy t (freshRecord t) reps old ≡ record { refusal = replayOf t reps .refusal; slots = replayOf t reps .slots; next = replayOf t reps .next }
+    -- what the library's `Record::run` from the fresh record and `lost_fresh` answer for the list, with any log that has room for it and any buffer that has room for the cycle
+    pub replay-ran : (old kept : List ℕ) → length reps ≤ length old → cycleOf (used t) ≤ length kept
+        → ranBy t (freshRecord t) reps old kept ≡ record { refusal = replayOf t reps .refusal; slots = replayOf t reps .slots; next = replayOf t reps .next }
     unfolding ranBy replayOf
-    replay-ran old l = rw (outcome-run t (freshRecord t) reps old (admitted t z (freshRecord t) starts-sound) l) refl
+    replay-ran old kept l m = rw (outcome-run t (freshRecord t) reps old kept (admitted t z (freshRecord t) starts-sound) (has-room t reps old kept l m)) refl
 
     pub replay-units : lostFresh t reps ≡ record { refusal = replayOf t reps .refusal; units = replayOf t reps .lost }
     unfolding lostFresh lostFrom lostRefusal replayOf

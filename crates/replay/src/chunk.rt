@@ -43,7 +43,8 @@ fn moved(p: Progress, ran: Ran, units: u64) -> Progress
     }
 }
 
-// Runs the chunk, with a log byte for each slot that is accepted. Once a report has been refused nothing moves.
+// Runs the chunk, with a log byte for each slot that is accepted and a buffer of its own, which has room for any cycle and is dropped after it. Once a report has
+// been refused nothing moves.
 fn onward(p: Progress, t: Table, reports: &[u8], log: &mut [u8]) -> Progress
     requires { ⌜ (tableRefusal t ≡ None) × Replayed t (2 ^ 60) p × (length (now reports) ≤ 1024) × (length (now reports) ≤ length (now log)) ⌝ }
     ensures answer { λ r. ⌜ r ≡ onwardOf t p (now (reports .entry)) ⌝ }
@@ -53,7 +54,8 @@ fn onward(p: Progress, t: Table, reports: &[u8], log: &mut [u8]) -> Progress
     match f {
         Refusal::None => {
             let q = p.next;
-            let ran = q.run(t, reports, log);
+            let mut buffer = [0u8; 4096];
+            let ran = q.run(t, reports, log, &mut buffer);
             let lost = q.lost(t, reports);
             moved(p, ran, lost.units)
         }

@@ -43,7 +43,7 @@ module _ {E : ℕ → ℕ → ℕ} {n : ℕ} (win : Windows E n) (W : ℕ → �
     abbrev K' : ℕ → ℕ → ℕ
     K' = claimed E W (suc c) l'
 
-    next-now : (i : ℕ) → i < n → (s : ℕ) → c < s → s < E i c → K' i s ≡ m i
+    pub next-now : (i : ℕ) → i < n → (s : ℕ) → c < s → s < E i c → K' i s ≡ m i
     next-now i row s on u =
         let e : E i (suc c) ≡ E i c = win .flat i c (suc c) row (omega arith) (omega arith) in
         claim-now (suc c) l' i row s on (omega arith) ∙ goes i row (omega arith)
@@ -64,7 +64,7 @@ module _ {E : ℕ → ℕ → ℕ} {n : ℕ} (win : Windows E n) (W : ℕ → �
             (λ v. omega (arith, next-later i row s u v, claim-later c l i row s v)) (side s (E i c))
 
     -- a row with as much left claims as before, and each row does after its window
-    same-claim : (i s : ℕ) → i < n → c < s → (s < E i c → m i ≡ l i) → K' i s ≡ K i s
+    pub same-claim : (i s : ℕ) → i < n → c < s → (s < E i c → m i ≡ l i) → K' i s ≡ K i s
     same-claim i s row u h =
         ⊎-elim (λ v. next-now i row s u v ∙ h v ∙ sym (claim-now c l i row s (omega arith) v)) (λ v. next-later i row s u v ∙ sym (claim-later c l i row s v)) (side s (E i c))
 

@@ -131,7 +131,7 @@ module _ (c : StepCall) where
   abbrev pub stepReport : ℕ
   stepReport = c .given .1 .1 .0
 
--- ---- `Record::run`, from a record, on a table and reports, with a lent log
+-- ---- `Record::run`, from a record, on a table and reports, with a lent log and a lent buffer
 abbrev pub RunCall : Type 0
 RunCall = Call run-kinds.ps run-kinds.r run.Post
 
@@ -155,6 +155,13 @@ module _ (c : RunCall) where
 
   abbrev pub newLog : List ℕ
   newLog = now (c .left .1 .1 .1 .0)
+
+  -- the lent buffer before, and at exit
+  abbrev pub oldBuffer : List ℕ
+  oldBuffer = now (c .given .1 .1 .1 .1 .0)
+
+  abbrev pub newBuffer : List ℕ
+  newBuffer = now (c .left .1 .1 .1 .1 .0)
 
 -- ---- `Record::lost`, from a record, on a table and reports
 abbrev pub LostCall : Type 0

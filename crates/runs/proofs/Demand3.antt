@@ -3,7 +3,7 @@
 -- primary unit after its alternate began. Other jobs' failures change none of this.' Stated through the contracts of `fresh` and `Record::run`, and of `Record::step`.
 -- Assumes nothing.
 use mathlib.Core.Path.{_≡_, refl, sym, ap, ap₂, _∙_, subst}
-use mathlib.Core.Logic.{⊎-elim, inl, inr}
+use mathlib.Core.Logic.{_⊎_, ⊎-elim, inl, inr}
 use mathlib.Core.List.{List, []}
 use Prim.Native.Nat.{ℕ, zero, suc, _≤_, _<_}
 use native.Mathlib.Omega.{arith}
@@ -13,7 +13,7 @@ use Rattle.refusal.specs.declared.Refusal.the-variants.{None}
 use Rattle.refusal.proofs.Order.{beside-none}
 use Rattle.table.specs.declared.Row.{Row}
 use Rattle.table.specs.declared.Table.{Table}
-use Rattle.table.specs.Rows.{used}
+use Rattle.table.specs.Rows.{used, cycleOf}
 use Rattle.rule.proofs.Tests.{side}
 use Rattle.rule.proofs.Counting.{within-same}
 use Rattle.reserve.specs.Check.{tableRefusal}
@@ -26,15 +26,14 @@ use Rattle.slots.specs.OneSlot.{Work, what, byteOf, stepOf}
 use Rattle.slots.specs.Reports.{Outcome, runOf, recAfter}
 use Rattle.slots.specs.History.{workOf, logged, reported, isPrimary, isAlternate, primaries, alternates}
 use Rattle.slots.specs.Answers.{slotUnder, steppedBy}
-use Rattle.slots.specs.Turns.{RunLeaves}
 use Rattle.slots.proofs.SoundRecord.{Usable, table-usable, sound-if, none-table, sound-none}
 use Rattle.slots.proofs.StaysSound.{fresh-sound, what-allowed}
 use Rattle.slots.proofs.RunFacts.{run-none, run-whole, what-byte}
 use Rattle.slots.proofs.RunCourse.{run-course}
 use Rattle.runs.specs.Demand3.{Finished, Served, AllServed}
 use Rattle.runs.proofs.Courses.{course-served}
-use Rattle.runs.proofs.Calls.{FreshCall, freshTable, StepCall, stepFrom, stepTable, stepReport, RunCall, runFrom, runTable, runReports, runOutcome, oldLog, newLog}
-use Rattle.runs.proofs.RunAnswers.{Enters, Leaves, accepted-enters, run-answers, run-same, no-room}
+use Rattle.runs.proofs.Calls.{FreshCall, freshTable, StepCall, stepFrom, stepTable, stepReport, RunCall, runFrom, runTable, runReports, runOutcome, oldLog, newLog, oldBuffer}
+use Rattle.runs.proofs.RunAnswers.{Enters, Left, Leaves, accepted-enters, run-answers, run-same, no-room}
 
 -- ---- two histories that agree on their first N slots
 module _ (N : ℕ) (works works' : ℕ → Work) (reports reports' : ℕ → ℕ)
@@ -76,7 +75,7 @@ module _ (rs : List Row) (ok : Usable rs) where
 
   -- of the lent log that the run was written to
   lent-served : (reps old : List ℕ) (f : Refusal) (n : ℕ) (next : Record) (new : List ℕ)
-      → RunLeaves (runOf rs (freshOf rs) reps) old f n next new → AllServed rs n (logged new) (reported reps)
+      → Left (runOf rs (freshOf rs) reps) old f n next new → AllServed rs n (logged new) (reported reps)
   lent-served reps old f n next new g =
       let log : List ℕ = runOf rs (freshOf rs) reps .log in
       subst (λ (m : ℕ). AllServed rs m (logged new) (reported reps)) (sym (g .count))
@@ -110,13 +109,16 @@ module _ (f : FreshCall) (c : RunCall) (same : runTable c ≡ freshTable f) (fro
       let q : runFrom c ≡ freshOf (used t) = from-fresh accepted in
       let admitted : recordRefusal t (runFrom c) ≡ None
       = sound-none t (runFrom c) accepted (ap (sound (used t)) q ∙ sound-if (used t) (freshOf (used t)) (fresh-sound (used t) ok)) in
-      ⊎-elim (λ (short : length (oldLog c) < length (runReports c)).
-      subst (λ (n : ℕ). AllServed (used t) n (logged (newLog c)) (reported (runReports c))) (sym (no-room c admitted short))
-      (none-served (used t) ok (logged (newLog c)) (reported (runReports c))))
+      let none : (length (oldLog c) < length (runReports c)) ⊎ (length (oldBuffer c) < cycleOf (used t)) → AllServed (used t) (c .answer .slots) (logged (newLog c)) (reported (runReports c))
+      = λ short. subst (λ (n : ℕ). AllServed (used t) n (logged (newLog c)) (reported (runReports c))) (sym (no-room c admitted short))
+      (none-served (used t) ok (logged (newLog c)) (reported (runReports c))) in
+      ⊎-elim (λ (short : length (oldLog c) < length (runReports c)). none (inl short))
       (λ (room : length (runReports c) ≤ length (oldLog c)).
+      ⊎-elim (λ (short : length (oldBuffer c) < cycleOf (used t)). none (inr short))
+      (λ (buffer : cycleOf (used t) ≤ length (oldBuffer c)).
       lent-served (used t) ok (runReports c) (oldLog c) (c .answer .refusal) (c .answer .slots) (c .answer .next) (newLog c)
-      (subst (λ (o : Outcome). Leaves c o) (run-same c refl q refl) (run-answers c (record { admitted = admitted; room = room }))))
-      (side (length (oldLog c)) (length (runReports c)))
+      (subst (λ (o : Outcome). Leaves c o) (run-same c refl q refl) (run-answers c (record { admitted = admitted; room = room; buffer = buffer }))))
+      (side (length (oldBuffer c)) (cycleOf (used t)))) (side (length (oldLog c)) (length (runReports c)))
 
   -- 'of which none is refused': of each report's slot. That the table is accepted is in it
   pub demand-3-run : c .answer .refusal ≡ None → AllServed (used (runTable c)) (length (runReports c)) (logged (newLog c)) (reported (runReports c))

@@ -13,7 +13,7 @@ use Rattle.refusal.specs.declared.Refusal.the-variants.{None}
 use Rattle.refusal.specs.Order.{accepted, orElse, beside}
 use Rattle.refusal.proofs.Order.{passes, none-later, beside-none}
 use Rattle.table.specs.declared.Table.{Table}
-use Rattle.table.specs.Rows.{used}
+use Rattle.table.specs.Rows.{used, cycleOf}
 use Rattle.rule.proofs.Tests.{split}
 use Rattle.slots.specs.declared.Record.{Record}
 use Rattle.slots.specs.declared.Ran.{Ran}
@@ -27,7 +27,7 @@ use Rattle.slots.proofs.ExactlyWhen.{not-none}
 use Rattle.slots.proofs.HandedBack.{ByReport}
 use Rattle.slots.proofs.JoinedRuns.{after, join-run, join-stopped}
 use Rattle.slots.proofs.JoinedLost.{joined-units}
-use Rattle.runs.proofs.Calls.{RunCall, runFrom, runTable, runReports, runOutcome, oldLog, newLog, LostCall, lossFrom, lossTable, lossReports}
+use Rattle.runs.proofs.Calls.{RunCall, runFrom, runTable, runReports, runOutcome, oldLog, newLog, LostCall, lossFrom, lossTable, lossReports, oldBuffer}
 use Rattle.runs.proofs.RunAnswers.{report-told, Enters, Leaves, run-answers, run-same, log-bytes, accepted-enters, stopped-enters}
 use Rattle.runs.proofs.OnceIsEnough.{next-admitted}
 
@@ -55,15 +55,21 @@ pub record StopsThere (first both : RunCall) : Type 0 where
   pub answer : both .answer ≡ first .answer
   pub log : take (both .answer .slots) (newLog both) ≡ take (first .answer .slots) (newLog first)
 
-both-enters : (first both : RunCall) (ys : List ℕ) → Extends first both ys → Enters first → length (runReports both) ≤ length (oldLog both) → Enters both
+-- the lent log and the lent buffer are long enough
+pub record Roomy (c : RunCall) : Type 0 where
+  pub log : length (runReports c) ≤ length (oldLog c)
+  pub buffer : cycleOf (used (runTable c)) ≤ length (oldBuffer c)
+
+both-enters : (first both : RunCall) (ys : List ℕ) → Extends first both ys → Enters first → Roomy both → Enters both
 both-enters first both ys x g room = record {
   admitted = ap (λ (t : Table). recordRefusal t (runFrom both)) (x .table) ∙ ap (recordRefusal (runTable first)) (x .from) ∙ g .admitted;
-  room = room;
+  room = room .log;
+  buffer = room .buffer;
 }
 
 -- where the first list is accepted
 pub joined-run : (first second both : RunCall) → Continues first second → Extends first both (runReports second) → length (runFrom first .jobs) ≡ 16
-    → first .answer .refusal ≡ None → length (runReports second) ≤ length (oldLog second) → length (runReports both) ≤ length (oldLog both) → GoesOn first second both
+    → first .answer .refusal ≡ None → Roomy second → Roomy both → GoesOn first second both
 joined-run first second both n x sixteen z room₂ room₃ =
     record {
       refusal = g₃ .stop ∙ ap (λ (o : Outcome). o .refusal) whole ∙ sym (g₂ .stop);
@@ -93,7 +99,8 @@ joined-run first second both n x sixteen z room₂ room₃ =
           ap (λ (t : Table). recordRefusal t (runFrom second)) (n .table)
           ∙ ap (recordRefusal (runTable first)) from₂
           ∙ next-admitted (runTable first) (runFrom first) sixteen (e₁ .admitted) (runReports first);
-      room = room₂;
+      room = room₂ .log;
+      buffer = room₂ .buffer;
     }
 
     e₃ : Enters both
@@ -113,7 +120,7 @@ joined-run first second both n x sixteen z room₂ room₃ =
 
 -- where a report stops it, by 10 or 11
 pub joined-stopped : (first both : RunCall) (ys : List ℕ) → Extends first both ys
-    → ByReport (first .answer .refusal) → length (runReports both) ≤ length (oldLog both) → StopsThere first both
+    → ByReport (first .answer .refusal) → Roomy both → StopsThere first both
 joined-stopped first both ys x by room =
     record {
       answer =

@@ -1,20 +1,26 @@
 -- The answers of the public functions, from what the code has found on each way out.
 -- Assumes nothing.
-use mathlib.Core.Path.{_≡_, refl, sym, ap, _∙_}
-use mathlib.Core.Bool.{false}
+use mathlib.Core.Path.{_≡_, refl, sym, ap, _∙_, subst}
+use mathlib.Core.Logic.{_⊎_, inl, inr}
+use mathlib.Core.Bool.{Bool, true, false, _||_}
 use mathlib.Core.List.{List, _++_}
 use Prim.Native.Nat.{ℕ, _≤_, _<_}
-use borrow.Author.Tests.{lt-ltb, le-ltb}
+use native.Mathlib.Nat.{zero-add}
+use native.Mathlib.Omega.{arith}
+use borrow.Author.Tests.{ltb-false, lt-ltb, le-ltb}
 use lib.Dec.{ltb}
 use lib.ListN.{length, drop, replicate}
+use lib.Seq.{sets-eq}
 use Rattle.refusal.specs.declared.Refusal.{Refusal}
 use Rattle.refusal.specs.declared.Refusal.the-variants.{None, Room}
 use Rattle.refusal.specs.Order.{accepted, given, orElse, beside}
+use Rattle.refusal.specs.Lent.{overlaid}
 use Rattle.refusal.proofs.Order.{Told, refused, keeps, passes, beside-refused, beside-none}
 use Rattle.table.specs.declared.Table.{Table}
 use Rattle.table.specs.declared.Checked.{Checked}
-use Rattle.table.specs.Rows.{used}
+use Rattle.table.specs.Rows.{used, cycleOf}
 use Rattle.table.proofs.Check.{used-count}
+use Rattle.rule.proofs.Tests.{or-left, or-right, or-none, or-first, or-second}
 use Rattle.reserve.specs.Check.{tableRefusal, tableCheck}
 use Rattle.reserve.proofs.Verdict.{checked-refusal, table-ready}
 use Rattle.reserve.proofs.Ready.{few}
@@ -32,10 +38,14 @@ use Rattle.slots.specs.Sound.{recordRefusal}
 use Rattle.slots.specs.OneSlot.{reserved, unreserved, byteOf, what, lowestWaiting}
 use Rattle.slots.specs.WaitingSet.{waitingSet, waitingCount, awaitingOf}
 use Rattle.slots.specs.Reports.{reportRefusal, Outcome, stopped, runOf}
-use Rattle.slots.specs.Answers.{askedOf, slotUnder, steppedBy, entryRefusal, outcomeOf, ranBy, logAfter}
+use Rattle.slots.specs.Answers.{askedOf, slotUnder, steppedBy, entryRefusal, outcomeOf, ranBy, logAfter, reservationsOf, bufferAfter}
+use Rattle.slots.specs.Buffer.{Kept}
 use Rattle.slots.specs.Turns.{startedWith, membersOf, admittedOf, Steady, RunLeaves}
 use Rattle.slots.proofs.Admittance.{admitted-refusal, record-none, admitted-steady, admitted-held}
 use Rattle.slots.proofs.Settled.{stands-few, stands-holder, byte-is}
+use Rattle.slots.proofs.SoundRecord.{sound-none}
+use Rattle.slots.proofs.RunFacts.{run-short}
+use Rattle.slots.proofs.KeptBuffer.{kept-is}
 
 -- ---- the fresh record
 module _ (t : Table) (checked : Checked) (e : checked ≡ tableCheck t) where
@@ -52,28 +62,70 @@ module _ (t : Table) (checked : Checked) (e : checked ≡ tableCheck t) where
   unfolding startedFor freshRecord freshOf freshJobs
   fresh-refused p js h r g = g ∙ rw (← checked-refusal t checked e) (rw (refused (checked .refusal) p, h) refl)
 
--- ---- what becomes of a list of reports, with a lent log that held `old`
-module _ (t : Table) (q : Record) (reps old : List ℕ) where
+-- ---- what becomes of a list of reports, with a lent log that held `old` and a lent buffer that held `kept`
+-- one of the two is shorter than its use
+abbrev pub roomless : Table → (reps old kept : List ℕ) → Bool
+roomless t reps old kept = ltb (length old) (length reps) || ltb (length kept) (cycleOf (used t))
+
+pub lacks-room : (t : Table) (reps old kept : List ℕ) → (length old < length reps) ⊎ (length kept < cycleOf (used t)) → roomless t reps old kept ≡ true
+lacks-room t reps old kept (inl l) = or-left (ltb (length old) (length reps)) (ltb (length kept) (cycleOf (used t))) (lt-ltb (length old) (length reps) l)
+lacks-room t reps old kept (inr l) = or-right (ltb (length old) (length reps)) (ltb (length kept) (cycleOf (used t))) (lt-ltb (length kept) (cycleOf (used t)) l)
+
+pub has-room : (t : Table) (reps old kept : List ℕ) → length reps ≤ length old → cycleOf (used t) ≤ length kept → roomless t reps old kept ≡ false
+has-room t reps old kept l u =
+    or-none (ltb (length old) (length reps)) (ltb (length kept) (cycleOf (used t))) (le-ltb (length old) (length reps) l) (le-ltb (length kept) (cycleOf (used t)) u)
+
+pub no-log : (log reports buffer cycle : ℕ) → log < reports → true ≡ (ltb log reports || ltb buffer cycle)
+no-log log reports buffer cycle l = simp (lt-ltb log reports l)
+
+pub log-first : (log reports buffer cycle : ℕ) → reports ≤ log → ltb buffer cycle ≡ (ltb log reports || ltb buffer cycle)
+log-first log reports buffer cycle l = simp (le-ltb log reports l)
+
+module _ (t : Table) (q : Record) (reps old kept : List ℕ) where
   -- stopped before the first slot
-  pub outcome-stopped : (f : Refusal) → entryRefusal t q reps old ≡ f → accepted f ≡ false → outcomeOf t q reps old ≡ stopped f q
+  pub outcome-stopped : (f : Refusal) → entryRefusal t q reps old kept ≡ f → accepted f ≡ false → outcomeOf t q reps old kept ≡ stopped f q
   unfolding outcomeOf
   outcome-stopped f h n = rw h (rw n refl)
 
   -- none of 1 to 7, 9
   module _ (z : recordRefusal t q ≡ None) where
-    entry : entryRefusal t q reps old ≡ given (ltb (length old) (length reps)) Room
+    entry : entryRefusal t q reps old kept ≡ given (roomless t reps old kept) Room
     unfolding entryRefusal
-    entry = sym (passes (recordRefusal t q) (given (ltb (length old) (length reps)) Room) z)
+    entry = sym (passes (recordRefusal t q) (given (roomless t reps old kept) Room) z)
 
-    pub entry-room : length old < length reps → entryRefusal t q reps old ≡ Room
-    entry-room l = entry ∙ rw (lt-ltb (length old) (length reps) l) refl
+    pub entry-room : roomless t reps old kept ≡ true → entryRefusal t q reps old kept ≡ Room
+    entry-room l = entry ∙ rw l refl
+
+    pub entry-none : roomless t reps old kept ≡ false → entryRefusal t q reps old kept ≡ None
+    entry-none l = entry ∙ rw l refl
 
     -- nor 8: it is run
-    pub outcome-run : length reps ≤ length old → outcomeOf t q reps old ≡ runOf (used t) q reps
+    pub outcome-run : roomless t reps old kept ≡ false → outcomeOf t q reps old kept ≡ runOf (used t) q reps
     unfolding outcomeOf
-    outcome-run l =
-        let h : entryRefusal t q reps old ≡ None = entry ∙ rw (le-ltb (length old) (length reps) l) refl in
-        rw h refl
+    outcome-run l = let h : entryRefusal t q reps old kept ≡ None = entry-none l in rw h refl
+
+-- what the code hands back is what the three definitions give
+record Gives (t : Table) (q : Record) (reps old kept : List ℕ) (r : Ran) (log buffer : List ℕ) : Type 0 where
+  answer : r ≡ ranBy t q reps old kept
+  bytes : log ≡ logAfter t q reps old kept
+  left : buffer ≡ bufferAfter t q reps old kept
+
+-- a refusal writes nothing
+unwritten : (f : Refusal) (new old : List ℕ) → accepted f ≡ false → old ≡ overlaid f new old
+unfolding overlaid
+unwritten f new old n = rw n refl
+
+-- stopped before the first slot: nothing is written
+stopped-all : (t : Table) (q : Record) (reps old kept : List ℕ) (f : Refusal) → entryRefusal t q reps old kept ≡ f → accepted f ≡ false
+    → Gives t q reps old kept (record { refusal = f; slots = 0; next = q }) old kept
+unfolding ranBy logAfter bufferAfter
+stopped-all t q reps old kept f h n =
+    let o : outcomeOf t q reps old kept ≡ stopped f q = outcome-stopped t q reps old kept f h n in
+    record {
+      answer = rw o refl;
+      bytes = rw o refl;
+      left = unwritten (entryRefusal t q reps old kept) (reservationsOf (used t) (outcomeOf t q reps old kept .next)) kept (ap accepted h ∙ n);
+    }
 
 -- ---- the answers at a record
 module _ (t : Table) (q : Record) (a : Admitted) (e : a ≡ admittedOf t q) where
@@ -122,51 +174,79 @@ module _ (t : Table) (q : Record) (a : Admitted) (e : a ≡ admittedOf t q) wher
     stepped-none report r h =
         h ∙ ap (λ (f : Refusal). slotUnder f (used t) q report) (passes (recordRefusal t q) (reportRefusal (what (used t) q) report) none)
 
-  -- ---- a list of reports, with a lent log that held `old`
-  module _ (reps old : List ℕ) where
-    told : (o : Outcome) → outcomeOf t q reps old ≡ o → (r : Ran) (log : List ℕ) → RunLeaves o old (r .refusal) (r .slots) (r .next) log
-        → (r ≡ ranBy t q reps old) × (log ≡ logAfter t q reps old)
-    unfolding ranBy logAfter
-    told o h r log g =
-        rw h (
-          (let k = g .count in rw (g .stop, g .after, k) refl),
-          g .written ∙ ap (λ (n : ℕ). o .log ++ drop n old) (g .count),
+  -- ---- a list of reports that is refused at the record
+  module _ (reps old kept : List ℕ) (p : Told (a .refusal)) where
+    refused-all : Gives t q reps old kept (record { refusal = a .refusal; slots = 0; next = q }) old kept
+    unfolding entryRefusal
+    refused-all =
+        let later = given (roomless t reps old kept) Room in
+        stopped-all t q reps old kept (a .refusal) (sym (keeps (a .refusal) later p ∙ ap (λ (f : Refusal). orElse f later) (admitted-refusal t q a e))) (refused (a .refusal) p)
+
+    pub ran-refused : _≡_ {A = Ran} (record { refusal = a .refusal; slots = 0; next = q }) (ranBy t q reps old kept)
+    ran-refused = refused-all .answer
+
+    pub log-refused : old ≡ logAfter t q reps old kept
+    log-refused = refused-all .bytes
+
+    pub buffer-refused : kept ≡ bufferAfter t q reps old kept
+    buffer-refused = refused-all .left
+
+-- ---- a list of reports from a sound record, with a lent log that held `old` and a lent buffer that held `kept`
+module _ {t : Table} {cycle : ℕ} {q : Record} (st : Steady t cycle q) (reps old kept : List ℕ) (lacking : Bool)
+    (asked : lacking ≡ (ltb (length old) (length reps) || ltb (length kept) cycle)) where
+  unrefused : recordRefusal t q ≡ None
+  unrefused = sound-none t q (st .table) (st .sound)
+
+  is-roomless : lacking ≡ roomless t reps old kept
+  is-roomless = asked ∙ ap (λ (c : ℕ). ltb (length old) (length reps) || ltb (length kept) c) (st .is-cycle)
+
+  module _ (l : lacking ≡ true) where
+    room-all : Gives t q reps old kept (record { refusal = Room; slots = 0; next = q }) old kept
+    room-all = stopped-all t q reps old kept Room (entry-room t q reps old kept unrefused (sym is-roomless ∙ l)) refl
+
+    pub ran-room : _≡_ {A = Ran} (record { refusal = Room; slots = 0; next = q }) (ranBy t q reps old kept)
+    ran-room = room-all .answer
+
+    pub log-room : old ≡ logAfter t q reps old kept
+    log-room = room-all .bytes
+
+    pub buffer-room : kept ≡ bufferAfter t q reps old kept
+    buffer-room = room-all .left
+
+  module _ (l : lacking ≡ false) where
+    roomy : roomless t reps old kept ≡ false
+    roomy = sym is-roomless ∙ l
+
+    log-long : length reps ≤ length old
+    log-long = ltb-false (length old) (length reps) (or-first (ltb (length old) (length reps)) (ltb (length kept) (cycleOf (used t))) roomy)
+
+    pub buffer-long : cycle ≤ length kept
+    buffer-long =
+        omega (
+          arith,
+          ltb-false (length kept) (cycleOf (used t)) (or-second (ltb (length old) (length reps)) (ltb (length kept) (cycleOf (used t))) roomy),
+          st .is-cycle,
         )
 
-    nothing : (f : Refusal) → RunLeaves (stopped f q) old f 0 q old
-    nothing f = record { stop = refl; count = refl; after = refl; written = refl }
+    module _ (r : Ran) (log : List ℕ) (g : RunLeaves (runOf (used t) q reps) old (r .refusal) (r .slots) (r .next) log) where
+      abbrev o : Outcome
+      o = runOf (used t) q reps
 
-    refused-both : Told (a .refusal) → (_≡_ {A = Ran} (record { refusal = a .refusal; slots = 0; next = q }) (ranBy t q reps old)) × (old ≡ logAfter t q reps old)
-    unfolding entryRefusal
-    refused-both p =
-        let later = given (ltb (length old) (length reps)) Room in
-        let h : entryRefusal t q reps old ≡ a .refusal = sym (keeps (a .refusal) later p ∙ ap (λ (f : Refusal). orElse f later) (admitted-refusal t q a e)) in
-        told (stopped (a .refusal) q) (outcome-stopped t q reps old (a .refusal) h (refused (a .refusal) p)) (record { refusal = a .refusal; slots = 0; next = q }) old (nothing (a .refusal))
+      is-run : outcomeOf t q reps old kept ≡ o
+      is-run = outcome-run t q reps old kept unrefused roomy
 
-    pub ran-refused : Told (a .refusal) → _≡_ {A = Ran} (record { refusal = a .refusal; slots = 0; next = q }) (ranBy t q reps old)
-    ran-refused p = refused-both p .0
+      pub ran-done : r ≡ ranBy t q reps old kept
+      unfolding ranBy
+      ran-done = rw is-run (let n = g .count in rw (g .stop, g .after, n) refl)
 
-    pub log-refused : Told (a .refusal) → old ≡ logAfter t q reps old
-    log-refused p = refused-both p .1
+      pub log-done : log ≡ logAfter t q reps old kept
+      unfolding logAfter
+      log-done =
+          rw is-run
+          (g .written ∙ sets-eq (o .log) old 0 (omega (arith, run-short (used t) q reps, log-long)) ∙ ap (λ (n : ℕ). o .log ++ drop n old) (zero-add (length (o .log))))
 
-    module _ (d : a .refusal ≡ None) where
-      room-both : length old < length reps → (_≡_ {A = Ran} (record { refusal = Room; slots = 0; next = q }) (ranBy t q reps old)) × (old ≡ logAfter t q reps old)
-      room-both l =
-          let h : entryRefusal t q reps old ≡ Room = entry-room t q reps old (record-none t q a e d) l in
-          told (stopped Room q) (outcome-stopped t q reps old Room h refl) (record { refusal = Room; slots = 0; next = q }) old (nothing Room)
-
-      pub ran-room : length old < length reps → _≡_ {A = Ran} (record { refusal = Room; slots = 0; next = q }) (ranBy t q reps old)
-      ran-room l = room-both l .0
-
-      pub log-room : length old < length reps → old ≡ logAfter t q reps old
-      log-room l = room-both l .1
-
-      module _ (l : length reps ≤ length old) (r : Ran) (log : List ℕ) (g : RunLeaves (runOf (used t) q reps) old (r .refusal) (r .slots) (r .next) log) where
-        done-both : (r ≡ ranBy t q reps old) × (log ≡ logAfter t q reps old)
-        done-both = told (runOf (used t) q reps) (outcome-run t q reps old (record-none t q a e d) l) r log g
-
-        pub ran-done : r ≡ ranBy t q reps old
-        ran-done = done-both .0
-
-        pub log-done : log ≡ logAfter t q reps old
-        log-done = done-both .1
+      pub buffer-done : (buffer : List ℕ) → Kept (used t) cycle (r .next) kept buffer → buffer ≡ bufferAfter t q reps old kept
+      unfolding bufferAfter overlaid
+      buffer-done buffer k =
+          rw (entry-none t q reps old kept unrefused roomy, is-run)
+          (kept-is (subst (λ (p : Record). Kept (used t) cycle p kept buffer) (g .after) k) (st .is-cycle) buffer-long)

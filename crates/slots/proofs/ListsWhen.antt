@@ -9,12 +9,13 @@ use Prim.Native.Nat.{ℕ, zero, suc, _≤_, _<_}
 use native.Mathlib.Omega.{arith}
 use lib.ListN.{length, getD}
 use Rattle.refusal.specs.declared.Refusal.{Refusal}
-use Rattle.refusal.specs.declared.Refusal.the-variants.{None, Room}
+use Rattle.refusal.specs.declared.Refusal.the-variants.{None, Room, Report, Stray}
+use Rattle.refusal.specs.Numbers.{numberOf}
 use Rattle.refusal.specs.Order.{accepted, orElse}
 use Rattle.refusal.proofs.Order.{accepted-none}
 use Rattle.table.specs.declared.Row.{Row}
 use Rattle.table.specs.declared.Table.{Table}
-use Rattle.table.specs.Rows.{used}
+use Rattle.table.specs.Rows.{used, cycleOf}
 use Rattle.rule.proofs.Tests.{split, side, never}
 use Rattle.reserve.specs.Check.{tableRefusal}
 use Rattle.reserve.specs.Exactly.{TableGives}
@@ -30,7 +31,7 @@ use Rattle.slots.specs.Exactly.{RecordGives, ReportGives, AcceptedTo, Li
 use Rattle.slots.proofs.SoundRecord.{table-usable, sound-if}
 use Rattle.slots.proofs.StaysSound.{fresh-sound}
 use Rattle.slots.proofs.RunFacts.{run-none, run-on, run-stops, after-none, after-first}
-use Rattle.slots.proofs.AnswerCases.{outcome-stopped, entry-room, outcome-run}
+use Rattle.slots.proofs.AnswerCases.{lacks-room, has-room, outcome-stopped, entry-room, entry-none, outcome-run}
 use Rattle.slots.proofs.ExactlyWhen.{not-none, chain, record-gives, report-gives}
 
 -- ---- a list of reports from a sound record, slot by slot
@@ -112,27 +113,28 @@ module _ (rs : List Row) where
     pub stop-gives : (f : Refusal) → (runOf rs q reps .refusal ≡ f) ↔ ((n : ℕ) × ListStops rs q reps f n)
     stop-gives f = (λ e. (length (runOf rs q reps .log), list-gives f _ .0 (e, refl)), λ s. list-gives f (s .0) .1 (s .1) .0)
 
--- ---- a run with a lent log that holds `old`: 1 to 7, 9, 8, then slot by slot
-module _ (t : Table) (q : Record) (reps old : List ℕ) where
+-- ---- a run with a lent log that holds `old` and a lent buffer that holds `kept`: 1 to 7, 9, 8, then slot by slot
+module _ (t : Table) (q : Record) (reps old kept : List ℕ) where
   -- 1 to 7, 9
-  entry-record : (f : Refusal) → RecordGives t q f → (f ≡ None → ⊥) → entryRefusal t q reps old ≡ f
+  entry-record : (f : Refusal) → RecordGives t q f → (f ≡ None → ⊥) → entryRefusal t q reps old kept ≡ f
   unfolding entryRefusal orElse
   entry-record f g h = rw (record-gives t q f .1 g, not-none f h) refl
 
   abbrev Gives : Refusal → ℕ → Type 0
-  Gives = RunGivesAt t q reps old
+  Gives = RunGivesAt t q reps old kept
 
-  ran-as : {f : Refusal} {n : ℕ} (o : Outcome) → outcomeOf t q reps old ≡ o → o .refusal ≡ f → length (o .log) ≡ n
-      → (ranBy t q reps old .refusal ≡ f) × (ranBy t q reps old .slots ≡ n)
+  ran-as : {f : Refusal} {n : ℕ} (o : Outcome) → outcomeOf t q reps old kept ≡ o → o .refusal ≡ f → length (o .log) ≡ n
+      → (ranBy t q reps old kept .refusal ≡ f) × (ranBy t q reps old kept .slots ≡ n)
   unfolding ranBy
   ran-as o h d e = (ap (λ (o : Outcome). o .refusal) h ∙ d, ap (λ (o : Outcome). length (o .log)) h ∙ e)
 
-  run-if : (f : Refusal) (n : ℕ) → Gives f n → (ranBy t q reps old .refusal ≡ f) × (ranBy t q reps old .slots ≡ n)
-  run-if f n (at-record g h e) = ran-as (stopped f q) (outcome-stopped t q reps old f (entry-record f g h) (not-none f h)) refl (sym e)
-  run-if f n (at-room g l d e) = ran-as (stopped Room q) (outcome-stopped t q reps old Room (entry-room t q reps old (record-gives t q None .1 g) l) refl) (sym d) (sym e)
-  run-if f n (at-slot g l s) =
+  run-if : (f : Refusal) (n : ℕ) → Gives f n → (ranBy t q reps old kept .refusal ≡ f) × (ranBy t q reps old kept .slots ≡ n)
+  run-if f n (at-record g h e) = ran-as (stopped f q) (outcome-stopped t q reps old kept f (entry-record f g h) (not-none f h)) refl (sym e)
+  run-if f n (at-room g l d e) =
+      ran-as (stopped Room q) (outcome-stopped t q reps old kept Room (entry-room t q reps old kept (record-gives t q None .1 g) (lacks-room t reps old kept l)) refl) (sym d) (sym e)
+  run-if f n (at-slot g l u s) =
       let r = list-gives (used t) q reps f n .1 s in
-      ran-as (runOf (used t) q reps) (outcome-run t q reps old (record-gives t q None .1 g) l) (r .0) (r .1)
+      ran-as (runOf (used t) q reps) (outcome-run t q reps old kept (record-gives t q None .1 g) (has-room t reps old kept l u)) (r .0) (r .1)
 
   some-run : (f : Refusal) × ((n : ℕ) × Gives f n)
   some-run =
@@ -141,16 +143,32 @@ module _ (t : Table) (q : Record) (reps old : List ℕ) where
       ⊎-elim
       (λ (z : accepted f ≡ true).
       let none : RecordGives t q None = subst (RecordGives t q) (accepted-none f z) g in
-      ⊎-elim (λ (l : length old < length reps). (Room, (0, at-room none l refl refl)))
-      (λ (l : length reps ≤ length old). (runOf (used t) q reps .refusal, (length (runOf (used t) q reps .log), at-slot none l (list-stops (used t) q reps))))
-      (side (length old) (length reps)))
+      ⊎-elim (λ (l : length old < length reps). (Room, (0, at-room none (inl l) refl refl)))
+      (λ (l : length reps ≤ length old).
+      ⊎-elim (λ (u : length kept < cycleOf (used t)). (Room, (0, at-room none (inr u) refl refl)))
+      (λ (u : cycleOf (used t) ≤ length kept). (runOf (used t) q reps .refusal, (length (runOf (used t) q reps .log), at-slot none l u (list-stops (used t) q reps))))
+      (side (length kept) (cycleOf (used t)))) (side (length old) (length reps)))
       (λ (z : accepted f ≡ false). (f, (0, at-record g (λ e. never (ap accepted e) z) refl)))
       (split (accepted f))
 
-  pub run-gives : (f : Refusal) (n : ℕ) → ((ranBy t q reps old .refusal ≡ f) × (ranBy t q reps old .slots ≡ n)) ↔ RunGivesAt t q reps old f n
+  -- a list that is run to its end, or stopped by a report, is not refused before its first slot
+  pub run-entered : (f : Refusal) (n : ℕ) → (f ≡ None) ⊎ ((f ≡ Report) ⊎ (f ≡ Stray)) → Gives f n → entryRefusal t q reps old kept ≡ None
+  unfolding RecordGives
+  run-entered f n (inl z) (at-record g h e) = absurd (h z)
+  run-entered f n (inr (inl z)) (at-record g h e) = absurd (subst (RecordGives t q) z g)
+  run-entered f n (inr (inr z)) (at-record g h e) = absurd (subst (RecordGives t q) z g)
+  run-entered f n k (at-room g l d e) = absurd (no-room k)
+    where
+      no-room : (f ≡ None) ⊎ ((f ≡ Report) ⊎ (f ≡ Stray)) → ⊥
+      no-room (inl z) = let y : _≡_ {A = ℕ} 0 8 = ap numberOf (sym z ∙ d) in omega arith
+      no-room (inr (inl z)) = let y : _≡_ {A = ℕ} 10 8 = ap numberOf (sym z ∙ d) in omega arith
+      no-room (inr (inr z)) = let y : _≡_ {A = ℕ} 11 8 = ap numberOf (sym z ∙ d) in omega arith
+  run-entered f n k (at-slot g l u s) = entry-none t q reps old kept (record-gives t q None .1 g) (has-room t reps old kept l u)
+
+  pub run-gives : (f : Refusal) (n : ℕ) → ((ranBy t q reps old kept .refusal ≡ f) × (ranBy t q reps old kept .slots ≡ n)) ↔ RunGivesAt t q reps old kept f n
   run-gives f n = (to, run-if f n)
     where
-      to : (ranBy t q reps old .refusal ≡ f) × (ranBy t q reps old .slots ≡ n) → Gives f n
+      to : (ranBy t q reps old kept .refusal ≡ f) × (ranBy t q reps old kept .slots ≡ n) → Gives f n
       to h =
           let s = some-run in
           let r = run-if (s .0) (s .1 .0) (s .1 .1) in

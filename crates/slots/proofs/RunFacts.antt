@@ -7,13 +7,15 @@ use mathlib.Core.List.{List, [], _∷_}
 use Prim.Native.Nat.{ℕ, zero, suc, _+_, _-_, _≤_, _<_}
 use native.Mathlib.Omega.{arith}
 use lib.ListN.{length, getD}
-use borrow.Author.Tests.{lt-ltb, le-ltb}
+use borrow.Author.Tests.{eqb-false, lt-ltb, le-ltb}
+use lib.Dec.{eqb}
 use Rattle.refusal.specs.declared.Refusal.the-variants.{None}
 use Rattle.refusal.specs.Order.{accepted}
 use Rattle.table.specs.declared.Row.{Row}
+use Rattle.table.specs.Rows.{cycleOf}
 use Rattle.rule.proofs.Tests.{split, never}
 use Rattle.slots.specs.declared.Record.{Record}
-use Rattle.slots.specs.OneSlot.{Work, idle, primary, alternate, what, byteOf, stepOf}
+use Rattle.slots.specs.OneSlot.{Work, idle, primary, alternate, what, byteOf, nextClock, stepBy, stepOf}
 use Rattle.slots.specs.Reports.{reportRefusal, Outcome, stopped, onto, runOf, recAfter}
 use Rattle.slots.specs.History.{workOf, logged, reported}
 use Rattle.slots.specs.Allowed.{Allowed}
@@ -109,6 +111,25 @@ module _ (rs : List Row) where
     pub log-bytes : (t : ℕ) → t < length (runOf rs q reps .log) → getD (runOf rs q reps .log) t 0 ≡ byteOf (what rs (recAfter rs q reps t))
     log-bytes t l = goes q reps .bytes t l
 
+-- ---- the clock stays in the cycle
+clock-ticks : (L c : ℕ) → c < L → nextClock L c < L
+unfolding nextClock
+clock-ticks L c l =
+    ⊎-elim (λ (e : eqb (c + 1) L ≡ true). rw e (omega arith))
+    (λ (e : eqb (c + 1) L ≡ false). let ne : c + 1 ≡ L → ⊥ = eqb-false (c + 1) L e in rw e (omega (arith, ne))) (split (eqb (c + 1) L))
+
+module _ (rs : List Row) (q : Record) (reps : List ℕ) (l : q .clock < cycleOf rs) where
+  after-ticks : (t : ℕ) → recAfter rs q reps t .clock < cycleOf rs
+  unfolding stepOf stepBy
+  after-ticks zero = rw (after-none rs q reps) l
+  after-ticks (suc t) = rw (after-more rs q reps t) (step-ticks (recAfter rs q reps t) (after-ticks t))
+    where
+      step-ticks : (p : Record) → p .clock < cycleOf rs → stepOf rs p (reported reps t) .clock < cycleOf rs
+      step-ticks p u = clock-ticks (cycleOf rs) (p .clock) u
+
+  pub next-ticks : runOf rs q reps .next .clock < cycleOf rs
+  next-ticks = rw (run-next rs q reps) (after-ticks (length (runOf rs q reps .log)))
+
 -- ---- from a sound record each slot leaves a sound one, and so does the run
 module _ (rs : List Row) (ok : Usable rs) (q : Record) (s : Sound rs q) (reps : List ℕ) where
   pub after-sound : (t : ℕ) → Sound rs (recAfter rs q reps t)
@@ -119,7 +140,7 @@ module _ (rs : List Row) (ok : Usable rs) (q : Record) (s : Sound rs q) (reps : 
   next-sound = rw (run-next rs q reps) (after-sound (length (runOf rs q reps .log)))
 
 -- ---- the log's byte tells the work
-work-byte : (w : Work) → ((k : ℕ) → w ≡ primary k → k < 16) → workOf (byteOf w) ≡ w
+pub work-byte : (w : Work) → ((k : ℕ) → w ≡ primary k → k < 16) → workOf (byteOf w) ≡ w
 unfolding workOf byteOf
 work-byte idle h = refl
 work-byte (primary k) h = rw (lt-ltb k 16 (h k refl))

@@ -3,11 +3,11 @@
 use mathlib.Core.Path.{_≡_, refl, sym, ap, ap₂, _∙_}
 use mathlib.Core.Bool.{true, false}
 use mathlib.Core.List.{List, [], _∷_, _++_, append-assoc, append-nil}
-use Prim.Native.Nat.{ℕ, _+_, _≤_, _<_}
+use Prim.Native.Nat.{ℕ, suc, _+_, _≤_, _<_}
 use native.Mathlib.Omega.{arith}
 use native.Mathlib.Numerals.{add-one}
-use lib.ListN.{length, getD, set, drop, length-append, length-drop, drop-of-length-le}
-use lib.Seq.{drop-cons, set-append-seam}
+use lib.ListN.{length, getD, set, drop, length-append, drop-of-length-le}
+use lib.Seq.{drop-cons, set-out, sets, length-sets}
 use Rattle.refusal.specs.declared.Refusal.{Refusal}
 use Rattle.refusal.specs.declared.Refusal.the-variants.{None}
 use Rattle.refusal.specs.Order.{accepted}
@@ -19,15 +19,17 @@ use Rattle.slots.specs.declared.Record.{Record}
 use Rattle.slots.specs.declared.Stepped.{Stepped}
 use Rattle.slots.specs.OneSlot.{Work, idle, primary, alternate, what, byteOf, stepOf}
 use Rattle.slots.specs.History.{workOf}
-use Rattle.slots.specs.Reports.{reportRefusal, Outcome, onto, runOf}
+use Rattle.slots.specs.Reports.{reportRefusal, Outcome, stopped, onto, runOf}
 use Rattle.slots.specs.Answers.{slotUnder}
-use Rattle.slots.specs.Turns.{Steady, RunLeaves}
+use Rattle.slots.specs.Turns.{Steady, RunLeaves, lossAt, lostBy}
 use Rattle.slots.proofs.SoundRecord.{Sound, table-usable, sound-if}
 use Rattle.slots.proofs.SlotActs.{InRows, allowed-row}
 use Rattle.slots.proofs.StaysSound.{what-allowed, step-sound}
 use Rattle.slots.proofs.RunFacts.{run-none, run-on, run-stops, what-byte}
 use Rattle.slots.proofs.JoinedRuns.{after}
 use Rattle.slots.proofs.Settled.{stands-sound}
+use Rattle.slots.proofs.LostRows.{by-none, by-more}
+use Rattle.slots.proofs.LostBound.{openUnits, loss-open}
 
 -- a byte of the log is less than 33
 byte-few : (rs : List Row) (w : Work) → length rs ≤ 16 → InRows rs w → byteOf w < 33
@@ -90,78 +92,101 @@ going-step {t} {cycle} {reps} {q} {i} g l s e d =
       sixteen = rw n (sure .sixteen);
     }
 
--- ---- the run, with the log so far
-pub record Running (t : Table) (cycle : ℕ) (start : Record) (reps old log : List ℕ) (q : Record) (i : ℕ) : Type 0 where
-  pub going : Going t cycle reps q i
-  pub room : length reps ≤ length old
-  -- the bytes of the accepted slots
+-- past the log's end nothing is written
+pub put-past : (log : List ℕ) (i b : ℕ) → length log ≤ i → log ≡ set log i b
+put-past log i b l = sym (set-out log i b l)
+
+-- ---- some of the slots: from the record p, where the list has come to its a-th report and `units` are lost, to the record q at the i-th
+pub record Passed (t : Table) (reps : List ℕ) (p : Record) (a units : ℕ) (old : List ℕ) (q : Record) (i lost : ℕ) (log : List ℕ) : Type 0 where
+  -- the bytes of those slots
   pub bytes : List ℕ
-  pub count : length bytes ≡ i
-  pub is-log : log ≡ bytes ++ drop i old
-  pub rest : runOf (used t) start reps ≡ after bytes (runOf (used t) q (drop i reps))
+  pub count : i ≡ a + length bytes
+  pub is-log : log ≡ sets old a bytes
+  pub rest : runOf (used t) p (drop a reps) ≡ after bytes (runOf (used t) q (drop i reps))
+  -- what they have lost, and what the waiting jobs may still lose
+  pub loses : units + lostBy (used t) p (drop a reps) ≡ lost + lostBy (used t) q (drop i reps)
+  pub few : lost + openUnits (used t) (q .jobs) ≤ units + openUnits (used t) (p .jobs) + length bytes
 
-pub running-start : {t : Table} {cycle : ℕ} {q : Record} → Steady t cycle q → length (q .jobs) ≡ 16
-    → (reps old : List ℕ) → length reps ≤ length old → Running t cycle q reps old old q 0
-running-start g e reps old r = record { going = going-start g e reps; room = r; bytes = []; count = refl; is-log = refl; rest = refl }
+pub passed-none : (t : Table) (reps : List ℕ) (p : Record) (a units : ℕ) (old : List ℕ) → Passed t reps p a units old p a units old
+passed-none t reps p a units old = record { bytes = []; count = omega arith; is-log = refl; rest = refl; loses = refl; few = omega arith }
 
-module _ {t : Table} {cycle : ℕ} {start : Record} {reps old log : List ℕ} {q : Record} {i : ℕ} (g : Running t cycle start reps old log q i) where
-  pub running-size : length log ≡ length old
-  running-size = ap length (g .is-log) ∙ length-append (g .bytes) (drop i old) ∙ omega (arith, g .count, length-drop i old, g .room, g .going .within)
+-- one run of stores after another
+sets-more : (old : List ℕ) (a : ℕ) (bs cs : List ℕ) → sets (sets old a bs) (a + length bs) cs ≡ sets old a (bs ++ cs)
+sets-more old a [] cs = let e : a + 0 ≡ a = omega arith in rw e refl
+sets-more old a (b ∷ bs) cs = let e : a + suc (length bs) ≡ suc a + length bs = omega arith in rw e (sets-more (set old a b) (suc a) bs cs)
 
-  pub running-place : i < length reps → i < length log
-  running-place l = omega (arith, running-size, g .room)
+after-more : (bs cs : List ℕ) (o : Outcome) → after bs (after cs o) ≡ after (bs ++ cs) o
+after-more bs cs o = ap (λ (x : List ℕ). record { refusal = o .refusal; next = o .next; log = x }) (sym (append-assoc bs cs (o .log)))
 
+pub passed-join : {t : Table} {reps : List ℕ} {p : Record} {a units : ℕ} {old : List ℕ} {q : Record} {i lost : ℕ} {log : List ℕ} {r : Record} {j more : ℕ} {new : List ℕ}
+    → Passed t reps p a units old q i lost log → Passed t reps q i lost log r j more new → Passed t reps p a units old r j more new
+passed-join {t} {reps} {p} {a} {units} {old} {q} {i} {lost} {log} {r} {j} {more} {new} f g = record {
+  bytes = f .bytes ++ g .bytes;
+  count = omega (arith, f .count, g .count, length-append (f .bytes) (g .bytes));
+  is-log = g .is-log ∙ ap₂ (λ (x : List ℕ) (n : ℕ). sets x n (g .bytes)) (f .is-log) (f .count) ∙ sets-more old a (f .bytes) (g .bytes);
+  rest = f .rest ∙ ap (after (f .bytes)) (g .rest) ∙ after-more (f .bytes) (g .bytes) (runOf (used t) r (drop j reps));
+  loses = f .loses ∙ g .loses;
+  few = omega (arith, f .few, g .few, length-append (f .bytes) (g .bytes));
+}
+
+pub passed-size : {t : Table} {reps : List ℕ} {p : Record} {a units : ℕ} {old : List ℕ} {q : Record} {i lost : ℕ} {log : List ℕ} → Passed t reps p a units old q i lost log
+    → length log ≡ length old
+passed-size {t} {reps} {p} {a} {units} {old} f = ap length (f .is-log) ∙ length-sets old a (f .bytes)
+
+-- one slot
+module _ {t : Table} {cycle : ℕ} {reps : List ℕ} {q : Record} {i : ℕ} (g : Going t cycle reps q i) (l : i < length reps) (s : Stepped)
+    (e : s ≡ slotUnder (reportRefusal (what (used t) q) (getD reps i 0)) (used t) q (getD reps i 0)) (d : s .refusal ≡ None) (x : ℕ) (is-loss : x ≡ lossAt (q .jobs) (what (used t) q)) where
+  abbrev rep : ℕ
+  rep = getD reps i 0
+
+  -- what is lost was open, and the slot opens one unit at most
+  pub opened : x + openUnits (used t) (s .next .jobs) ≤ 1 + openUnits (used t) (q .jobs)
+  opened =
+      let o = loss-open (used t) (table-usable t (g .steady .table)) q (stands-sound (g .steady) (g .sixteen)) rep in
+      rw (slot-next t q rep s e d) (omega (arith, o, is-loss))
+
+  pub passed-one : (lost : ℕ) (log : List ℕ) → Passed t reps q i lost log (s .next) (i + 1) (lost + x) (set log i (s .ran))
+  passed-one lost log = record {
+    bytes = s .ran ∷ [];
+    count = refl;
+    is-log = refl;
+    rest =
+        ap (runOf (used t) q) (next-report reps i l)
+        ∙ run-on (used t) q rep (drop (i + 1) reps) (slot-accepted t q rep s e d)
+        ∙ ap₂ (λ (b : ℕ) (n : Record). onto b (runOf (used t) n (drop (i + 1) reps))) (sym (slot-byte t q rep s e d)) (sym (slot-next t q rep s e d));
+    loses =
+        ap (λ (ys : List ℕ). lost + lostBy (used t) q ys) (next-report reps i l)
+        ∙ rw (slot-next t q rep s e d) (omega (arith, by-more (used t) q rep (drop (i + 1) reps), is-loss));
+    few = omega (arith, opened);
+  }
+
+-- ---- the whole list, from its first report
+module _ {t : Table} {start : Record} {reps old : List ℕ} {q : Record} {i lost : ℕ} {log : List ℕ} (f : Passed t reps start 0 0 old q i lost log) where
   -- the run is over at slot i
-  gives : (f : Refusal) → runOf (used t) start reps ≡ record { refusal = f; next = q; log = g .bytes ++ [] } → RunLeaves (runOf (used t) start reps) old f i q log
-  gives f e =
-      let b : runOf (used t) start reps .log ≡ g .bytes = ap (λ (o : Outcome). o .log) e ∙ append-nil (g .bytes) in
+  gives : (why : Refusal) → runOf (used t) q (drop i reps) ≡ record { refusal = why; next = q; log = [] } → RunLeaves (runOf (used t) start reps) old why i q log
+  gives why e =
+      let o : runOf (used t) start reps ≡ record { refusal = why; next = q; log = f .bytes ++ [] } = f .rest ∙ ap (after (f .bytes)) e in
+      let b : runOf (used t) start reps .log ≡ f .bytes = ap (λ (o : Outcome). o .log) o ∙ append-nil (f .bytes) in
       record {
-        stop = sym (ap (λ (o : Outcome). o .refusal) e);
-        count = sym (ap length b ∙ g .count);
-        after = sym (ap (λ (o : Outcome). o .next) e);
-        written = rw b (g .is-log);
+        stop = sym (ap (λ (o : Outcome). o .refusal) o);
+        count = sym (ap length b ∙ omega (arith, f .count));
+        after = sym (ap (λ (o : Outcome). o .next) o);
+        written = rw b (f .is-log);
       }
 
-  module _ (l : i < length reps) (s : Stepped) (e : s ≡ slotUnder (reportRefusal (what (used t) q) (getD reps i 0)) (used t) q (getD reps i 0)) where
-    abbrev rep : ℕ
-    rep = getD reps i 0
+  pub stops-answer : i < length reps → (s : Stepped) → s ≡ slotUnder (reportRefusal (what (used t) q) (getD reps i 0)) (used t) q (getD reps i 0) → Told (s .refusal)
+      → RunLeaves (runOf (used t) start reps) old (s .refusal) i q log
+  stops-answer l s e p =
+      gives (s .refusal)
+      (ap (runOf (used t) q) (next-report reps i l)
+      ∙ run-stops (used t) q (getD reps i 0) (drop (i + 1) reps) (slot-stops t q (getD reps i 0) s e p)
+      ∙ ap (λ (f : Refusal). stopped f q) (sym (slot-refusal t q (getD reps i 0) s e)))
 
-    pub running-step : s .refusal ≡ None → Running t cycle start reps old (set log i (s .ran)) (s .next) (i + 1)
-    running-step d = record {
-      going = going-step (g .going) l s e d;
-      room = g .room;
-      bytes = g .bytes ++ s .ran ∷ [];
-      count = length-append (g .bytes) (s .ran ∷ []) ∙ omega (arith, g .count);
-      is-log = wrote;
-      rest = goes;
-    }
-      where
-        wrote : set log i (s .ran) ≡ (g .bytes ++ s .ran ∷ []) ++ drop (i + 1) old
-        wrote =
-            ap₂ (λ (x : List ℕ) (k : ℕ). set x k (s .ran)) (g .is-log ∙ ap (λ (x : List ℕ). g .bytes ++ x) (next-report old i (omega (arith, g .room)))) (sym (g .count))
-            ∙ set-append-seam (g .bytes) (getD old i 0) (drop (i + 1) old) (s .ran)
-            ∙ sym (append-assoc (g .bytes) (s .ran ∷ []) (drop (i + 1) old))
+  module _ (u : length reps ≤ i) where
+    pub ends-answer : RunLeaves (runOf (used t) start reps) old None i q log
+    ends-answer = gives None (ap (runOf (used t) q) (drop-of-length-le reps u) ∙ run-none (used t) q)
 
-        goes : runOf (used t) start reps ≡ after (g .bytes ++ s .ran ∷ []) (runOf (used t) (s .next) (drop (i + 1) reps))
-        goes =
-            g .rest
-            ∙ ap (λ (x : List ℕ). after (g .bytes) (runOf (used t) q x)) (next-report reps i l)
-            ∙ ap (after (g .bytes)) (run-on (used t) q rep (drop (i + 1) reps) (slot-accepted t q rep s e d))
-            ∙ ap₂ (λ (b : ℕ) (n : Record). after (g .bytes) (onto b (runOf (used t) n (drop (i + 1) reps)))) (sym (slot-byte t q rep s e d)) (sym (slot-next t q rep s e d))
-            ∙ ap (λ (x : List ℕ). record { refusal = runOf (used t) (s .next) (drop (i + 1) reps) .refusal; next = runOf (used t) (s .next) (drop (i + 1) reps) .next; log = x })
-            (sym (append-assoc (g .bytes) (s .ran ∷ []) (runOf (used t) (s .next) (drop (i + 1) reps) .log)))
-
-    stops : Told (s .refusal) → runOf (used t) start reps ≡ record { refusal = s .refusal; next = q; log = g .bytes ++ [] }
-    stops p =
-        g .rest
-        ∙ ap (λ (x : List ℕ). after (g .bytes) (runOf (used t) q x)) (next-report reps i l)
-        ∙ ap (after (g .bytes)) (run-stops (used t) q rep (drop (i + 1) reps) (slot-stops t q rep s e p))
-        ∙ ap (λ (f : Refusal). record { refusal = f; next = q; log = g .bytes ++ [] }) (sym (slot-refusal t q rep s e))
-
-    pub stops-answer : Told (s .refusal) → RunLeaves (runOf (used t) start reps) old (s .refusal) i q log
-    stops-answer p = gives (s .refusal) (stops p)
-
-  pub ends-answer : length reps ≤ i → RunLeaves (runOf (used t) start reps) old None i q log
-  ends-answer u =
-      gives None
-      (g .rest ∙ ap (λ (x : List ℕ). after (g .bytes) (runOf (used t) q x)) (drop-of-length-le reps u) ∙ ap (after (g .bytes)) (run-none (used t) q))
+    pub ends-lost : lost ≡ lostBy (used t) start reps
+    ends-lost =
+        let z : lostBy (used t) q (drop i reps) ≡ 0 = ap (lostBy (used t) q) (drop-of-length-le reps u) ∙ by-none (used t) q in
+        omega (arith, f .loses, z)

@@ -6,7 +6,7 @@ use mathlib.Core.Bool.{Bool, true, false, cond}
 use mathlib.Core.List.{List}
 use Prim.Native.Nat.{ℕ, zero, suc, _+_, _-_, _*_, _/_, _%_, _^_, _≤_, _<_}
 use native.Mathlib.Omega.{arith}
-use native.Mathlib.Nat.{pow-suc}
+use native.Mathlib.Nat.{eq-or-lt-of-le, pow-suc}
 use borrow.Author.Tests.{eqb-true, eqb-false, eq-eqb, ne-eqb}
 use lib.Count.{trailingZeros, ones, under, ones-step, ones-le, trailing-le}
 use lib.Dec.{eqb}
@@ -108,6 +108,20 @@ module _ (P : ℕ → Bool) where
             }),
           )
 
+  -- a member has its own place in the number
+  pub member-least : (i n k : ℕ) → i ≤ k → k < i + n → P k ≡ true → 2 ^ (k - i) ≤ setFrom P i n
+  unfolding setFrom
+  member-least i zero k l u h = absurd (omega arith)
+  member-least i (suc n) k l u h =
+      ⊎-elim
+      (λ (e : i ≡ k).
+      let z : k - i ≡ 0 = omega arith in
+      rw z (omega (arith, ap unit (ap P e ∙ h))))
+      (λ (v : i < k).
+      let z : k - i ≡ suc (k - suc i) = omega arith in
+      rw z (omega (arith, pow-suc 2 (k - suc i), member-least (suc i) n k v (omega arith) h)))
+      (eq-or-lt-of-le l)
+
   -- ---- the members
   pub count-in : (i n : ℕ) → ones (setFrom P i n) ≡ count P i n
   unfolding setFrom count ones
@@ -116,6 +130,35 @@ module _ (P : ℕ → Bool) where
       ones-step (unit (P i) + 2 * setFrom P (suc i) n)
       ∙ ap₂ (λ (d y : ℕ). d + ones y) (low (P i) (setFrom P (suc i) n)) (high (P i) (setFrom P (suc i) n))
       ∙ ap (λ (y : ℕ). unit (P i) + y) (count-in (suc i) n)
+
+-- ---- two sets
+module _ (P Q : ℕ → Bool) where
+  -- with the same members
+  pub set-same : (i n : ℕ) → ((j : ℕ) → i ≤ j → j < i + n → P j ≡ Q j) → setFrom P i n ≡ setFrom Q i n
+  unfolding setFrom
+  set-same i zero h = refl
+  set-same i (suc n) h = ap₂ (λ (b : Bool) (x : ℕ). unit b + 2 * x) (h i (omega arith) (omega arith)) (set-same (suc i) n (λ j l u. h j (omega arith) (omega arith)))
+
+  -- with one member less
+  pub set-less : (i n k : ℕ) → i ≤ k → k < i + n → P k ≡ true → Q k ≡ false → ((j : ℕ) → (j ≡ k → ⊥) → P j ≡ Q j) → setFrom Q i n ≡ setFrom P i n - 2 ^ (k - i)
+  unfolding setFrom
+  set-less i zero k l u a b h = absurd (omega arith)
+  set-less i (suc n) k l u a b h =
+      ⊎-elim
+      (λ (e : i ≡ k).
+      let z : k - i ≡ 0 = omega arith in
+      rw z (omega (arith, ap unit (ap P e ∙ a), ap unit (ap Q e ∙ b), set-same (suc i) n (λ j v w. h j (λ q. omega arith)))))
+      (λ (v : i < k).
+      let z : k - i ≡ suc (k - suc i) = omega arith in
+      rw z
+      (omega (
+        arith,
+        pow-suc 2 (k - suc i),
+        ap unit (h i (λ q. omega arith)),
+        set-less (suc i) n k v (omega arith) a b h,
+        member-least P (suc i) n k v (omega arith) a,
+      )))
+      (eq-or-lt-of-le l)
 
 -- ---- as the code reads them off
 pub zeros-fit : (x : ℕ) → trailingZeros 16 x < 256
@@ -144,26 +187,25 @@ unfolding setFrom
 built-start js n l = record { within = omega arith; few = l; is = (let z : n - n ≡ 0 = omega arith in rw z refl) }
 
 -- there is room for one place more
-pub built-room : {js : List Job} {n i x : ℕ} → Built js n i x → 0 < i → 2 * x < 65536
+pub built-room : {js : List Job} {n i x : ℕ} → Built js n i x → 0 < i → x < 32768
 built-room {js} {n} {i} {x} g l =
     omega (arith, g .is, set-small (waits js) i (n - i), pow-mono below)
   where
     below : n - i ≤ 15
     below = omega (arith, g .within, g .few)
 
--- and for its bit
-pub built-bit : {js : List Job} {n i x : ℕ} → Built js n i x → 0 < i → (state : State) (b : ℕ) → b ≡ unit (isWaiting state) → b + 2 * x < 65536
-built-bit {js} {n} {i} {x} g l state b e = omega (arith, built-room g l, e, unit-few (isWaiting state))
+pub joined-room : (state : State) (x b : ℕ) → x < 32768 → b ≡ unit (isWaiting state) → b + 2 * x < 65536
+joined-room state x b l e = omega (arith, e, unit-few (isWaiting state))
 
-pub built-step : {js : List Job} {n i x : ℕ} → Built js n i x → 0 < i → (b : ℕ) → b ≡ unit (isWaiting (getD js (i - 1) noJob .state)) → Built js n (i - 1) (b + 2 * x)
+pub built-step : {js : List Job} {n i x : ℕ} → Built js n i x → 0 < i → (y : ℕ) → y ≡ unit (isWaiting (getD js (i - 1) noJob .state)) + 2 * x → Built js n (i - 1) y
 unfolding setFrom
-built-step {js} {n} {i} {x} g l b e =
+built-step {js} {n} {i} {x} g l y e =
     let u : n - (i - 1) ≡ suc (n - i) = omega (arith, g .within) in
     let v : suc (i - 1) ≡ i = omega arith in
     record {
       within = omega (arith, g .within);
       few = g .few;
-      is = ap₂ (λ (c y : ℕ). c + 2 * y) e (g .is) ∙ sym (rw (u, v) refl);
+      is = e ∙ ap (λ (z : ℕ). unit (isWaiting (getD js (i - 1) noJob .state)) + 2 * z) (g .is) ∙ sym (rw (u, v) refl);
     }
 
 pub built-end : {js : List Job} {n i x : ℕ} → Built js n i x → i ≤ 0 → x ≡ setFrom (waits js) 0 n

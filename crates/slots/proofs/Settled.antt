@@ -18,22 +18,20 @@ use Rattle.reserve.specs.declared.Standing.{Standing}
 use Rattle.reserve.specs.Standing.{fromClock}
 use Rattle.reserve.specs.Turns.{Ready}
 use Rattle.reserve.proofs.Verdict.{table-rows, table-accepted}
-use Rattle.slots.specs.declared.State.the-variants.{Waiting}
 use Rattle.slots.specs.declared.Job.{Job}
 use Rattle.slots.specs.declared.Record.{Record}
 use Rattle.slots.specs.declared.Stepped.{Stepped}
 use Rattle.slots.specs.declared.awaited.Members.{Members}
 use Rattle.slots.specs.Records.{jobAt}
 use Rattle.slots.specs.Sound.{lefts}
-use Rattle.slots.specs.OneSlot.{Work, alternate, reserved, unreserved, byteOf, holderAt, lowestWaiting, what, worked, renewed, nextClock, stepBy, stepOf, waits}
+use Rattle.slots.specs.OneSlot.{Work, idle, primary, alternate, reserved, unreserved, byteOf, holderAt, lowestWaiting, what, worked, renewed, nextClock, stepBy, stepOf, waits}
 use Rattle.slots.specs.Reports.{reportRefusal}
 use Rattle.slots.specs.History.{workOf}
 use Rattle.slots.specs.Answers.{slotUnder}
-use Rattle.slots.specs.Allowed.{Allowed}
-use Rattle.slots.specs.Turns.{membersOf, Workable, Steady}
-use Rattle.slots.proofs.JobFacts.{waiting-fits}
+use Rattle.slots.specs.Turns.{membersOf, entryOf, Workable, Steady}
+use Rattle.slots.proofs.JobFacts.{fits-units}
 use Rattle.slots.proofs.SoundRecord.{Usable, table-usable, Sound, sound-at}
-use Rattle.slots.proofs.SlotActs.{the-holder, allowed-row, allowed-primary}
+use Rattle.slots.proofs.SlotActs.{InRows, the-holder, allowed-row}
 use Rattle.slots.proofs.StaysSound.{what-allowed}
 use Rattle.slots.proofs.RunFacts.{what-byte}
 use Rattle.slots.proofs.Admittance.{held-now}
@@ -77,6 +75,24 @@ module _ {t : Table} {cycle : ℕ} {q : Record} (g : Steady t cycle q) where
   pub stands-held : length (q .jobs) ≡ 16 → (left : List ℕ) → left ≡ lefts (q .jobs) → (s : Standing) → s ≡ fromClock t (q .clock) left → s .holder ≡ holderAt (used t) q (q .clock)
   stands-held e left l s h = held-now t q left s (table-rows t (g .table)) (stands-sound e .ticks) l h
 
+  -- ---- the entry that the slot's unit moves is a row's, and its primary has run no more units than the cycle has slots
+  module _ (full : length (t .rows) ≡ 16) where
+    in-rows : (w : Work) → InRows (used t) w → entryOf w < length (used t)
+    unfolding entryOf
+    in-rows idle r = omega (arith, used-count t full stands-few, table-accepted t (g .table) .some)
+    in-rows (primary k) r = r
+    in-rows (alternate k) r = r
+
+    pub work-row : entryOf (what (used t) q) < length (used t)
+    work-row = in-rows (what (used t) q) (allowed-row (used t) q (what (used t) q) (what-allowed (used t) q))
+
+    pub work-small : length (q .jobs) ≡ 16 → jobAt (q .jobs) (entryOf (what (used t) q)) .run < 65535
+    work-small sixteen =
+        let i : ℕ = entryOf (what (used t) q) in
+        let u = fits-units (rowAt (used t) i) (jobAt (q .jobs) i) (stands-sound sixteen .jobs-fit i work-row) in
+        let p : rowAt (used t) i .period ≤ cycleOf (used t) = le-of-dvd (rows .cycle) (cycle-multiple (used t) i work-row) in
+        omega (arith, u, rows .good i work-row .primary-fits, p, table-accepted t (g .table) .cycle)
+
   -- ---- the byte that runs, from the holder and the waiting rows
   module _ (sixteen : length (q .jobs) ≡ 16) (full : length (t .rows) ≡ 16) (holder : ℕ) (held : holder ≡ holderAt (used t) q (q .clock))
       (m : Members) (found : m ≡ membersOf (q .jobs) (t .n)) where
@@ -94,21 +110,9 @@ module _ {t : Table} {cycle : ℕ} {q : Record} (g : Steady t cycle q) where
       pub stands-workable : Workable t (q .jobs) ran
       stands-workable = record {
         few = omega (arith, stands-few);
-        primaries = λ k e.
-            let al = allowed-primary (used t) q k (subst (Allowed (used t) q) (sym (runs-what ran is) ∙ e) (what-allowed (used t) q)) in
-            (omega (arith, al .0, size), small k (al .0) (al .1));
-        alternates = λ k e. omega (arith, allowed-row (used t) q (alternate k) (subst (Allowed (used t) q) (sym (runs-what ran is) ∙ e) (what-allowed (used t) q)), size);
+        row = omega (arith, ap entryOf (runs-what ran is), work-row full, used-count t full stands-few);
+        small = subst (λ (w : Work). jobAt (q .jobs) (entryOf w) .run < 65535) (sym (runs-what ran is)) (work-small full sixteen);
       }
-        where
-          size : length (used t) ≡ t .n
-          size = used-count t full stands-few
-
-          -- a waiting job has run fewer units than the cycle has slots
-          small : (k : ℕ) → k < length (used t) → jobAt (q .jobs) k .state ≡ Waiting → jobAt (q .jobs) k .run < 65535
-          small k l e =
-              let fits = waiting-fits (rowAt (used t) k) (jobAt (q .jobs) k) e (stands-sound sixteen .jobs-fit k l) in
-              let p : rowAt (used t) k .period ≤ cycleOf (used t) = le-of-dvd (rows .cycle) (cycle-multiple (used t) k l) in
-              omega (arith, fits .0, rows .good k l .primary-fits, p, table-accepted t (g .table) .cycle)
 
       module _ (report : ℕ) (f : Refusal) (told : f ≡ reportRefusal (workOf ran) report) where
         is-refusal : f ≡ reportRefusal (what (used t) q) report

@@ -1,29 +1,17 @@
 -- One slot, case by case as the code meets it.
 -- Assumes nothing.
-use mathlib.Core.Path.{_≡_, refl, sym, ap, _∙_}
-use mathlib.Core.Logic.{⊎-elim}
+use mathlib.Core.Path.{_≡_, refl, sym, _∙_}
 use mathlib.Core.Bool.{Bool, true, false, _&&_}
-use mathlib.Core.List.{List}
 use Prim.Native.Nat.{ℕ, zero, suc, _+_, _-_, _≤_, _<_}
 use native.Mathlib.Omega.{arith}
 use borrow.Author.Tests.{eq-eqb, ne-eqb, lt-ltb, le-ltb}
 use lib.Dec.{ltb, eqb}
-use lib.ListN.{getD, set}
 use Rattle.refusal.specs.declared.Refusal.{Refusal}
 use Rattle.refusal.specs.declared.Refusal.the-variants.{None, Report, Stray}
 use Rattle.refusal.specs.Order.{orElse}
-use Rattle.table.specs.declared.Row.{Row}
-use Rattle.table.specs.declared.Table.{Table}
-use Rattle.table.specs.Rows.{used, blank}
-use Rattle.rule.proofs.Tests.{side}
-use Rattle.slots.specs.declared.State.the-variants.{Waiting, Failed, Done}
-use Rattle.slots.specs.declared.Job.{Job}
-use Rattle.slots.specs.Records.{noJob, jobAt}
-use Rattle.slots.specs.OneSlot.{Work, idle, primary, alternate, reserved, unreserved, byteOf, onPrimary, onAlternate, worked, nextClock}
+use Rattle.slots.specs.OneSlot.{Work, idle, primary, alternate, reserved, unreserved, byteOf, nextClock}
 use Rattle.slots.specs.Reports.{reportRefusal}
 use Rattle.slots.specs.History.{workOf}
-use Rattle.slots.specs.Turns.{Workable, lossAt}
-use Rattle.slots.proofs.EntryLoops.{row-used}
 
 -- ---- the three points
 module _ (clock cycle short : ℕ) (fit : Bool) where
@@ -114,47 +102,3 @@ module _ (clock cycle : ℕ) where
   pub clock-rises : (clock + 1 ≡ cycle → ⊥) → clock + 1 ≡ nextClock cycle clock
   unfolding nextClock
   clock-rises e = simp (ne-eqb (clock + 1) cycle e)
-
--- ---- the unit that a byte stands for
-module _ (t : Table) (js : List Job) (ran : ℕ) (report : ℕ) (g : Workable t js ran) where
-  pub unit-idle : ran ≡ 0 → js ≡ worked (workOf ran) report (used t) js
-  unfolding worked
-  unit-idle e = rw (byte-idle ran e) refl
-
-  module _ (a : ran ≡ 0 → ⊥) (b : ran ≤ 16) where
-    pub unit-small : getD js (ran - 1) noJob .run < 65535
-    unit-small = g .primaries (ran - 1) (byte-primary ran a b) .1
-
-    pub unit-primary : (j : Job) → j ≡ onPrimary report (getD (t .rows) (ran - 1) blank) (getD js (ran - 1) noJob) → set js (ran - 1) j ≡ worked (workOf ran) report (used t) js
-    unfolding worked
-    unit-primary j e =
-        let l : ran - 1 < t .n = g .primaries (ran - 1) (byte-primary ran a b) .0 in
-        rw (byte-primary ran a b)
-        (ap (set js (ran - 1)) (e ∙ ap (λ (r : Row). onPrimary report r (jobAt js (ran - 1))) (row-used t (ran - 1) l)))
-
-  module _ (a : 16 < ran) where
-    pub unit-place : ran - 17 < 16
-    unit-place = omega (arith, g .few, g .alternates (ran - 17) (byte-alternate ran a))
-
-    pub unit-alternate : (j : Job) → j ≡ onAlternate (getD js (ran - 17) noJob) → set js (ran - 17) j ≡ worked (workOf ran) report (used t) js
-    unfolding worked
-    unit-alternate j e = rw (byte-alternate ran a) (ap (set js (ran - 17)) e)
-
--- ---- what a slot loses
-module _ (js : List Job) (ran : ℕ) where
-  pub loss-none : ran ≤ 16 → 0 ≡ lossAt js (workOf ran)
-  unfolding lossAt
-  loss-none l = ⊎-elim (λ (a : ran < 1). rw (byte-idle ran (omega arith)) refl) (λ (a : 1 ≤ ran). rw (byte-primary ran (λ e. omega arith) l) refl) (side ran 1)
-
-  module _ (a : 16 < ran) where
-    pub loss-waiting : getD js (ran - 17) noJob .state ≡ Waiting → getD js (ran - 17) noJob .run ≡ lossAt js (workOf ran)
-    unfolding lossAt
-    loss-waiting e = rw (byte-alternate ran a, e) refl
-
-    pub loss-failed : getD js (ran - 17) noJob .state ≡ Failed → 0 ≡ lossAt js (workOf ran)
-    unfolding lossAt
-    loss-failed e = rw (byte-alternate ran a, e) refl
-
-    pub loss-done : getD js (ran - 17) noJob .state ≡ Done → 0 ≡ lossAt js (workOf ran)
-    unfolding lossAt
-    loss-done e = rw (byte-alternate ran a, e) refl

@@ -33,9 +33,12 @@ waiting-unique κs a x y s t p q = p ∙ sym q
 pub step-unique : Settles 0 step-kinds.ps step-kinds.r step.Post
 step-unique κs a x y s t p q = p ∙ sym q
 
--- the lent log is the fourth parameter
-pub run-unique : SettlesLent 2 run-kinds.ps run-kinds.r (λ κs s. now (s .1 .1 .1 .0)) run.Post
-run-unique κs a x y s t p q = (p .0 ∙ sym (q .0), p .1 ∙ sym (q .1))
+-- the lent log is the fourth parameter, and the lent buffer the fifth
+pub run-unique : SettlesLent 3 run-kinds.ps run-kinds.r (λ κs s. now (s .1 .1 .1 .0)) run.Post
+run-unique κs a x y s t p q = (p .0 ∙ sym (q .0), p .1 .0 ∙ sym (q .1 .0))
+
+pub run-unique-buffer : SettlesLent 3 run-kinds.ps run-kinds.r (λ κs s. now (s .1 .1 .1 .1 .0)) run.Post
+run-unique-buffer κs a x y s t p q = (p .0 ∙ sym (q .0), p .1 .1 ∙ sym (q .1 .1))
 
 pub lost-unique : Settles 1 lost-kinds.ps lost-kinds.r lost.Post
 lost-unique κs a x y s t p q = p ∙ sym q

@@ -117,14 +117,14 @@ pub record ListStops (rs : List Row) (q : Record) (reps : List ℕ) (f : Refusal
   pub accepted : AcceptedTo rs q reps n
   pub stop : ((f ≡ None) × (n ≡ length reps)) ⊎ ((n < length reps) × (f ≡ None → ⊥) × ReportGives (what rs (recAfter rs q reps n)) (reported reps n) f)
 
--- a run with a lent log that holds `old` gives f after n slots: 1 to 7, 9, 8, then slot by slot
-pub data RunGivesAt (t : Table) (q : Record) (reps old : List ℕ) (f : Refusal) (n : ℕ) : Type 0 where
+-- a run with a lent log that holds `old` and a lent buffer that holds `kept` gives f after n slots: 1 to 7, 9, 8, then slot by slot
+pub data RunGivesAt (t : Table) (q : Record) (reps old kept : List ℕ) (f : Refusal) (n : ℕ) : Type 0 where
   -- 1 to 7, 9
-  at-record : RecordGives t q f → (f ≡ None → ⊥) → n ≡ 0 → RunGivesAt t q reps old f n
-  -- 8: 'The log needs as many bytes as there are reports.'
-  at-room : RecordGives t q None → length old < length reps → f ≡ Room → n ≡ 0 → RunGivesAt t q reps old f n
+  at-record : RecordGives t q f → (f ≡ None → ⊥) → n ≡ 0 → RunGivesAt t q reps old kept f n
+  -- 8: 'The log needs as many bytes as there are reports.' and '8 also when that buffer is shorter than the cycle'
+  at-room : RecordGives t q None → (length old < length reps) ⊎ (length kept < cycleOf (used t)) → f ≡ Room → n ≡ 0 → RunGivesAt t q reps old kept f n
   -- 'then, slot by slot, 10 before 11'
-  at-slot : RecordGives t q None → length reps ≤ length old → ListStops (used t) q reps f n → RunGivesAt t q reps old f n
+  at-slot : RecordGives t q None → length reps ≤ length old → cycleOf (used t) ≤ length kept → ListStops (used t) q reps f n → RunGivesAt t q reps old kept f n
 
 -- ---- lost units: 1 to 7, 9, then, slot by slot, 10 before 11
 unfoldable pub LostGives : Table → Record → List ℕ → Refusal → Type 0

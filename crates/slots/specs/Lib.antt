@@ -1,6 +1,7 @@
 pub mod Records
 pub mod Sound
 pub mod OneSlot
+pub mod Buffer
 pub mod WaitingSet
 pub mod History
 pub mod Reports

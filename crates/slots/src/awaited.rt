@@ -1,13 +1,10 @@
 // The rows that wait, as a set of 16 bits, row 1 in the lowest place.
 ghost use mathlib.Core.Path.{_≡_};
-ghost use mathlib.Core.Bool.{cond};
-ghost use Prim.Native.Nat.{_+_, _≤_};
-ghost use lib.Dec.{eqb};
-ghost use lib.Count.{trailingZeros};
+ghost use Prim.Native.Nat.{_+_, _*_, _≤_, _<_};
 ghost use Rattle.rule.specs.Slots.{unit};
 ghost use Rattle.slots.specs.OneSlot.{isWaiting, waits};
 ghost use Rattle.slots.specs.WaitingSet.{setFrom};
-ghost use Rattle.slots.specs.Turns.{membersOf};
+ghost use Rattle.slots.specs.Turns.{membersOf, lowestIn};
 use crate::Job;
 use crate::State;
 
@@ -19,7 +16,7 @@ pub(crate) struct Members {
 }
 
 // 1 for a job that waits.
-fn bit(state: State) -> u16
+pub(crate) fn bit(state: State) -> u16
     ensures { λ r. ⌜ r ≡ unit (isWaiting state) ⌝ }
 {
     match state {
@@ -29,8 +26,17 @@ fn bit(state: State) -> u16
     }
 }
 
+// The set with one place more below the others, which is a member where its job waits.
+pub(crate) fn joined(set: u16, state: State) -> u16
+    requires { ⌜ set < 32768 ⌝ }
+    ensures { λ r. ⌜ r ≡ unit (isWaiting state) + 2 * set ⌝ }
+{
+    let b = bit(state);
+    b + 2 * set
+}
+
 // The set of the waiting rows among the first n, built from the highest place down.
-fn waiting_set(jobs: [Job; 16], n: u8) -> u16
+pub(crate) fn waiting_set(jobs: [Job; 16], n: u8) -> u16
     requires { ⌜ n ≤ 16 ⌝ }
     ensures { λ x. ⌜ x ≡ setFrom (waits jobs) 0 n ⌝ }
 {
@@ -40,15 +46,14 @@ fn waiting_set(jobs: [Job; 16], n: u8) -> u16
         i -= 1;
         let j = jobs[i as usize];
         let state = j.state;
-        let b = bit(state);
-        x = b + 2 * x;
+        x = joined(x, state);
     }
     x
 }
 
 // The lowest member, counted from 1; 0 of the empty set.
-fn lowest(x: u16) -> u8
-    ensures { λ r. ⌜ r ≡ cond (eqb x 0) 0 (trailingZeros 16 x + 1) ⌝ }
+pub(crate) fn lowest(x: u16) -> u8
+    ensures { λ r. ⌜ r ≡ lowestIn x ⌝ }
 {
     if x == 0 {
         0

@@ -2,7 +2,7 @@
 ghost use mathlib.Core.Path.{_≡_};
 ghost use Rattle.slots.specs.Records.{freshJobs, startedFor};
 ghost use Rattle.slots.specs.WaitingSet.{awaitingOf};
-ghost use Rattle.slots.specs.Answers.{askedOf, steppedBy, ranBy, logAfter};
+ghost use Rattle.slots.specs.Answers.{askedOf, steppedBy, ranBy, logAfter, bufferAfter};
 ghost use Rattle.slots.specs.LostUnits.{lostFrom, lostFresh};
 ghost use Rattle.slots.specs.Turns.{startedWith};
 ghost use Rattle.table.specs.Rows.{used};
@@ -11,9 +11,12 @@ use refusal::Refusal;
 use table::Table;
 
 mod awaited;
+mod buffer;
 mod entry;
 mod listed;
+mod opening;
 mod slot;
+mod turn;
 
 // A row's current job: its primary may still run, or has failed (reported, overrun or aborted), or is done.
 pub enum State {
@@ -185,24 +188,17 @@ impl Record {
         }
     }
 
-    // A list of reports, slot by slot, with a log byte for each slot that is accepted. Later bytes stay.
-    pub fn run(self, t: Table, reports: &[u8], log: &mut [u8]) -> Ran
-        ensures answer { λ r. ⌜ r ≡ ranBy t self (now (reports .entry)) (now (log .entry)) ⌝ }
-        ensures bytes { λ _. ⌜ now (log .exit) ≡ logAfter t self (now (reports .entry)) (now (log .entry)) ⌝ }
+    // A list of reports, slot by slot, with a log byte for each slot that is accepted; later bytes stay. The lent buffer, whatever it held, is left with the reservations of the
+    // record handed back, a byte for each slot of the cycle; no refusal before the first slot touches it.
+    pub fn run(self, t: Table, reports: &[u8], log: &mut [u8], buffer: &mut [u8]) -> Ran
+        ensures answer { λ r. ⌜ r ≡ ranBy t self (now (reports .entry)) (now (log .entry)) (now (buffer .entry)) ⌝ }
+        ensures bytes { λ _. ⌜ now (log .exit) ≡ logAfter t self (now (reports .entry)) (now (log .entry)) (now (buffer .entry)) ⌝ }
+        ensures kept { λ _. ⌜ now (buffer .exit) ≡ bufferAfter t self (now (reports .entry)) (now (log .entry)) (now (buffer .entry)) ⌝ }
     {
         let admitted = slot::admit(self, t);
         let f = admitted.refusal;
         match f {
-            Refusal::None => {
-                if log.len() < reports.len() {
-                    return Ran {
-                        refusal: Refusal::Room,
-                        slots: 0,
-                        next: self,
-                    };
-                }
-                listed::run_list(self, t, admitted.cycle, reports, log)
-            }
+            Refusal::None => listed::run_admitted(self, t, admitted.cycle, reports, log, buffer),
             _ => Ran {
                 refusal: f,
                 slots: 0,
@@ -211,14 +207,14 @@ impl Record {
         }
     }
 
-    // Lost units over a list of reports from this record.
+    // Lost units over a list of reports from this record: the run's own loop, with no log and a buffer of its own.
     pub fn lost(self, t: Table, reports: &[u8]) -> Lost
         ensures { λ r. ⌜ r ≡ lostFrom t self (now (reports .entry)) ⌝ }
     {
         let admitted = slot::admit(self, t);
         let f = admitted.refusal;
         match f {
-            Refusal::None => listed::lost_list(self, t, admitted.cycle, reports),
+            Refusal::None => listed::lost_admitted(self, t, admitted.cycle, reports),
             _ => Lost {
                 refusal: f,
                 units: 0,

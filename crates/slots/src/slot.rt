@@ -16,6 +16,7 @@ use crate::Record;
 use crate::Stepped;
 use crate::awaited;
 use crate::entry;
+use crate::turn;
 use refusal::Refusal;
 use table::Table;
 
@@ -125,7 +126,7 @@ fn stray(ran: u8) -> Refusal
 }
 
 // The report is read: 0 going on, 1 done, 2 failed; over 2 it is refused, and 1 and 2 are for a primary unit alone.
-fn report_refusal(ran: u8, report: u8) -> Refusal
+pub(crate) fn report_refusal(ran: u8, report: u8) -> Refusal
     ensures { λ f. ⌜ f ≡ reportRefusal (workOf ran) report ⌝ }
 {
     match report {
@@ -142,16 +143,8 @@ fn after_unit(t: Table, jobs: [Job; 16], ran: u8, report: u8) -> [Job; 16]
     ensures { λ r. ⌜ r ≡ worked (workOf ran) report (used t) jobs ⌝ }
 {
     let mut next = jobs;
-    if ran == 0 {
-        return next;
-    }
-    if ran <= 16 {
-        let at = (ran - 1) as usize;
-        next[at] = entry::tried(t.rows[at], jobs[at], report);
-        return next;
-    }
-    let at = (ran - 17) as usize;
-    next[at] = entry::fallen_back(jobs[at]);
+    let at = turn::entry_of(ran) as usize;
+    next[at] = turn::moved_job(t.rows[at], jobs[at], ran, report);
     next
 }
 
@@ -216,14 +209,4 @@ pub(crate) fn settle(q: Record, t: Table, cycle: u16, holder: u8, report: u8) ->
             ran: 0,
         },
     }
-}
-
-// One slot of a sound record: the body that a list of reports is run by.
-pub(crate) fn turn(q: Record, t: Table, cycle: u16, report: u8) -> Stepped
-    requires { ⌜ Steady t cycle q ⌝ }
-    ensures { λ r. ⌜ r ≡ slotUnder (reportRefusal (what (used t) q) report) (used t) q report ⌝ }
-{
-    let jobs = q.jobs;
-    let stands = reserve::from_clock(t, q.clock, left_units(jobs));
-    settle(q, t, cycle, stands.holder, report)
 }

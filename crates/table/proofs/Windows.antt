@@ -10,7 +10,7 @@ use Rattle.table.specs.declared.Row.{Row}
 use Rattle.table.specs.Windows.{opens, closes, starts, windowEnd, wants}
 use Rattle.table.proofs.Good.{Good}
 
-end-is : (r : Row) (s : ℕ) → windowEnd r s ≡ s / r .period * r .period + r .period
+pub end-is : (r : Row) (s : ℕ) → windowEnd r s ≡ s / r .period * r .period + r .period
 unfolding windowEnd
 end-is r s = omega arith
 
@@ -51,6 +51,11 @@ module _ (r : Row) (good : Good r) where
       let h : s / T < L / T = div-lt-iff-lt-mul (good .period) .1 (rw e l) in
       let m : (s / T + 1) * T ≤ L / T * T = mul-le-mul-right T (omega arith) in
       omega arith
+
+  -- the next window, as long as each
+  pub end-next : (s : ℕ) → windowEnd r (windowEnd r s) ≡ windowEnd r s + T
+  unfolding windowEnd
+  end-next s = rw (mul-div-cancel (s / T + 1) (good .period)) (omega arith)
 
   -- ---- where windows start
   pub start-zero : starts r 0 ≡ true

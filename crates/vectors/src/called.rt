@@ -36,7 +36,7 @@ fn lend_list(t: Table, lent: &mut [u8], room: usize) -> Handed
 }
 
 fn call_list(s: &[u8]) {
-    let room = form::room(s);
+    let room = form::room(s, 2);
     let mut lent = [0u8; 16388];
     form::fill_bytes(&mut lent, form::byte(s, 1));
     let got = lend_list(form::table_of(s), &mut lent, room);
@@ -53,7 +53,7 @@ fn lend_firsts(t: Table, lent: &mut [u16], room: usize) -> Handed
 }
 
 fn call_firsts(s: &[u8]) {
-    let room = form::room(s);
+    let room = form::room(s, 2);
     let mut lent = [0u16; 16388];
     form::fill_places(&mut lent, form::byte(s, 1));
     let got = lend_firsts(form::table_of(s), &mut lent, room);
@@ -90,7 +90,7 @@ fn lend_file(t: Table, lent: &mut [u8], room: usize) -> Handed
 }
 
 fn call_write(s: &[u8]) {
-    let room = form::room(s);
+    let room = form::room(s, 2);
     let mut lent = [0u8; 16388];
     form::fill_bytes(&mut lent, form::byte(s, 1));
     let got = lend_file(form::table_of(s), &mut lent, room);
@@ -134,24 +134,46 @@ fn call_step(s: &[u8]) {
     print::entries(got.next);
 }
 
-fn lend_log(q: Record, t: Table, reports: &[u8], lent: &mut [u8], room: usize) -> Ran
-    requires { ⌜ room ≤ length (now lent) ⌝ }
+// Lends the first places of two pieces, `room` of a log and `kept` of a buffer.
+fn lend_both(
+    q: Record,
+    t: Table,
+    reports: &[u8],
+    log: &mut [u8],
+    room: usize,
+    buffer: &mut [u8],
+    kept: usize,
+) -> Ran
+    requires { ⌜ (room ≤ length (now log)) × (kept ≤ length (now buffer)) ⌝ }
 {
-    q.run(t, reports, &mut lent[..room])
+    q.run(t, reports, &mut log[..room], &mut buffer[..kept])
 }
 
 fn call_run(s: &[u8]) {
     let q = form::record_of(s);
-    let at = form::start(s, 183);
-    let room = form::room(s);
-    let mut lent = [0u8; 16388];
-    form::fill_bytes(&mut lent, form::byte(s, 1));
-    let got = lend_log(q, form::table_of(s), &s[at..], &mut lent, room);
+    let at = form::start(s, 185);
+    let room = form::room(s, 2);
+    let kept = form::room(s, 183);
+    let fill = form::byte(s, 1);
+    let mut log = [0u8; 16388];
+    let mut buffer = [0u8; 16388];
+    form::fill_bytes(&mut log, fill);
+    form::fill_bytes(&mut buffer, fill);
+    let got = lend_both(
+        q,
+        form::table_of(s),
+        &s[at..],
+        &mut log,
+        room,
+        &mut buffer,
+        kept,
+    );
     let f = got.refusal;
     print::head(b"run", f);
     print::number(got.slots as u64);
     print::entries(got.next);
-    print::bytes(&lent, room + 4);
+    print::bytes(&log, room + 4);
+    print::bytes(&buffer, kept + 4);
 }
 
 fn call_lost(s: &[u8]) {

@@ -21,11 +21,12 @@ pub(crate) fn word(s: &[u8], at: usize) -> u16
     high as u16 * 256 + low as u16
 }
 
-// How many places are lent.
-pub(crate) fn room(s: &[u8]) -> usize
+// How many places are lent, by the number at a place.
+pub(crate) fn room(s: &[u8], at: usize) -> usize
+    requires { ⌜ at < 1000 ⌝ }
     ensures { λ r. ⌜ r ≤ 16384 ⌝ }
 {
-    let n = word(s, 2) as usize;
+    let n = word(s, at) as usize;
     if 16384 < n { 16384 } else { n }
 }
 

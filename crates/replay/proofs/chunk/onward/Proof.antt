@@ -8,6 +8,9 @@ use Rattle.replay.proofs.chunk.onward.Tie as tie
 enum-told : tie.Need-enum-told
 enum-told c = search needs
 
+slice-aggregate-run : tie.Need-slice-aggregate-run
+slice-aggregate-run c = search needs
+
 run-requires : tie.Need-run-requires
 run-requires c κs = search needs
 
@@ -29,4 +32,12 @@ returns-2 c = (search (onward-refused), search (log-refused))
 pub onward-spec : {M : Type 1} → statement M
 onward-spec =
     tie.close
-    (tie.spec enum-told run-requires lost-requires moved-requires same-length returns returns-2)
+    (tie.spec
+    enum-told
+    slice-aggregate-run
+    run-requires
+    lost-requires
+    moved-requires
+    same-length
+    returns
+    returns-2)

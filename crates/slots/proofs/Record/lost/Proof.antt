@@ -1,9 +1,8 @@
 -- `slots::Record::lost` meets its contract.
 -- Assumes nothing.
 use borrow.Author.Needs.{needs}
-use Rattle.table.proofs.Lists.{long}
 use Rattle.slots.proofs.Admittance.{admitted-steady}
-use Rattle.slots.proofs.LostAnswers.{lost-refused, lost-done}
+use Rattle.slots.proofs.LostAnswers.{lost-refused}
 use Rattle.slots.proofs.Record.lost.Statement.{statement}
 use Rattle.slots.proofs.Record.lost.Tie as tie
 
@@ -13,14 +12,14 @@ admit-requires c κs = search needs
 enum-told : tie.Need-enum-told
 enum-told c = search needs
 
-lost-list-requires : tie.Need-lost-list-requires
-lost-list-requires c κs = search (admitted-steady)
+lost-admitted-requires : tie.Need-lost-admitted-requires
+lost-admitted-requires c κs = search (admitted-steady)
 
 returns : tie.Need-returns
-returns c = search (lost-done, long)
+returns c = search needs
 
 returns-2 : tie.Need-returns-2
 returns-2 c = search (lost-refused)
 
 pub lost-spec : {M : Type 1} → statement M
-lost-spec = tie.close (tie.spec admit-requires enum-told lost-list-requires returns returns-2)
+lost-spec = tie.close (tie.spec admit-requires enum-told lost-admitted-requires returns returns-2)

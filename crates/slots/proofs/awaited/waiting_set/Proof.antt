@@ -1,7 +1,7 @@
 -- `slots::awaited::waiting_set` meets its contract.
 -- Assumes nothing.
 use borrow.Author.Needs.{needs}
-use Rattle.slots.proofs.SetLaws.{Built, built-start, built-room, built-bit, built-step, built-end}
+use Rattle.slots.proofs.SetLaws.{Built, built-start, built-room, built-step, built-end}
 use Rattle.slots.proofs.awaited.waiting_set.Statement.{statement}
 use Rattle.slots.proofs.awaited.waiting_set.Tie as tie
 
@@ -26,14 +26,8 @@ mul-j c = search needs
 array-copy-out-j : tie.Need-array-copy-out-j Inv-loop μ-loop
 array-copy-out-j c = search needs
 
-bit-requires : tie.Need-bit-requires Inv-loop μ-loop
-bit-requires c κs = search needs
-
-mul-x : tie.Need-mul-x Inv-loop μ-loop
-mul-x c = search (built-room)
-
-add-x : tie.Need-add-x Inv-loop μ-loop
-add-x c = search (built-bit)
+joined-requires : tie.Need-joined-requires Inv-loop μ-loop
+joined-requires c κs = search (built-room)
 
 loop-less : tie.Need-loop-less Inv-loop μ-loop
 loop-less c = search needs
@@ -55,9 +49,7 @@ waiting-set-spec =
     cast-j
     mul-j
     array-copy-out-j
-    bit-requires
-    mul-x
-    add-x
+    joined-requires
     loop-less
     loop-again
     returns)

@@ -1,0 +1,92 @@
+//! The library's side, from the crate `bench`: a slice crosses as a pointer and a length.
+
+use crate::record::{Entry, Record, State};
+use crate::table::MOST_ROWS;
+
+extern "C" {
+    fn bench_run(
+        file: *const u8,
+        file_length: usize,
+        reports: *const u8,
+        reports_length: usize,
+        log: *mut u8,
+        log_length: usize,
+        buffer: *mut u8,
+        buffer_length: usize,
+    ) -> usize;
+
+    fn bench_figure(
+        file: *const u8,
+        file_length: usize,
+        reports: *const u8,
+        reports_length: usize,
+        log: *mut u8,
+        log_length: usize,
+        buffer: *mut u8,
+        buffer_length: usize,
+        i: usize,
+    ) -> u64;
+
+    fn bench_steps(
+        file: *const u8,
+        file_length: usize,
+        reports: *const u8,
+        reports_length: usize,
+        log: *mut u8,
+        log_length: usize,
+    ) -> usize;
+}
+
+/// A run from the fresh record of the file's table; answers the slots accepted.
+pub fn run(file: &[u8], reports: &[u8], log: &mut [u8], buffer: &mut [u8]) -> usize {
+    // Safe here and below: each pointer stands beside its slice's length, and it is proved that no other place is used.
+    unsafe {
+        bench_run(
+            file.as_ptr(),
+            file.len(),
+            reports.as_ptr(),
+            reports.len(),
+            log.as_mut_ptr(),
+            log.len(),
+            buffer.as_mut_ptr(),
+            buffer.len(),
+        )
+    }
+}
+
+/// The record after the same run, which is run again for each figure of it.
+pub fn record_after(file: &[u8], reports: &[u8], log: &mut [u8], buffer: &mut [u8]) -> Record {
+    let mut figure = |i| unsafe {
+        bench_figure(
+            file.as_ptr(),
+            file.len(),
+            reports.as_ptr(),
+            reports.len(),
+            log.as_mut_ptr(),
+            log.len(),
+            buffer.as_mut_ptr(),
+            buffer.len(),
+            i,
+        )
+    };
+    let mut entries = [entry(0); MOST_ROWS];
+    for (i, place) in entries.iter_mut().enumerate() {
+        *place = entry(figure(i));
+    }
+    Record { clock: figure(MOST_ROWS) as u16, entries }
+}
+
+/// A figure is (left × 65,536 + u) × 3 and the state's number.
+fn entry(figure: u64) -> Entry {
+    let state = match figure % 3 {
+        0 => State::Waiting,
+        1 => State::Failed,
+        _ => State::Done,
+    };
+    Entry { state, u: (figure / 3 % 65_536) as u16, left: (figure / 3 / 65_536) as u16 }
+}
+
+/// The same slots by single ones, each from its record and table alone; answers how many were accepted.
+pub fn steps(file: &[u8], reports: &[u8], log: &mut [u8]) -> usize {
+    unsafe { bench_steps(file.as_ptr(), file.len(), reports.as_ptr(), reports.len(), log.as_mut_ptr(), log.len()) }
+}

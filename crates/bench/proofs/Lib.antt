@@ -1,0 +1,4 @@
+pub mod AtOnce
+pub mod OneByOne
+pub mod Figures
+pub mod Unique

@@ -1,0 +1,115 @@
+// What a measurement calls from Rust: a list of reports from a table's fresh start, run at once and by single slots.
+ghost use mathlib.Core.Path.{_≡_};
+ghost use lib.ListN.{length};
+ghost use Rattle.bench.specs.Lists.{listRan, listLog, listBuffer, singleSlots, singleLog};
+ghost use Rattle.bench.specs.Numbers.{stateNumber, jobNumber, figureOf};
+use refusal::Refusal;
+use slots::Job;
+use slots::Ran;
+use slots::Record;
+use slots::State;
+
+// The run of a list over the table of a file.
+fn run(file: &[u8], reports: &[u8], log: &mut [u8], buffer: &mut [u8]) -> Ran
+    ensures answer { λ r. ⌜ r ≡ listRan (now (file .entry)) (now (reports .entry)) (now (log .entry)) (now (buffer .entry)) ⌝ }
+    ensures bytes { λ _. ⌜ now (log .exit) ≡ listLog (now (file .entry)) (now (reports .entry)) (now (log .entry)) (now (buffer .entry)) ⌝ }
+    ensures buffer { λ _. ⌜ now (buffer .exit) ≡ listBuffer (now (file .entry)) (now (reports .entry)) (now (log .entry)) (now (buffer .entry)) ⌝ }
+{
+    let read = tablefile::read(file);
+    let t = read.table;
+    let started = slots::fresh(t);
+    let q = started.start;
+    q.run(t, reports, log, buffer)
+}
+
+// The slots that a run accepts.
+#[no_mangle]
+pub extern "C" fn bench_run(file: &[u8], reports: &[u8], log: &mut [u8], buffer: &mut [u8]) -> usize
+    ensures slots { λ n. ⌜ n ≡ listRan (now (file .entry)) (now (reports .entry)) (now (log .entry)) (now (buffer .entry)) .slots ⌝ }
+    ensures bytes { λ _. ⌜ now (log .exit) ≡ listLog (now (file .entry)) (now (reports .entry)) (now (log .entry)) (now (buffer .entry)) ⌝ }
+    ensures buffer { λ _. ⌜ now (buffer .exit) ≡ listBuffer (now (file .entry)) (now (reports .entry)) (now (log .entry)) (now (buffer .entry)) ⌝ }
+{
+    let ran = run(file, reports, log, buffer);
+    ran.slots
+}
+
+// A state as a number.
+fn state_number(state: State) -> u64
+    ensures { λ n. ⌜ n ≡ stateNumber state ⌝ }
+{
+    match state {
+        State::Waiting => 0,
+        State::Failed => 1,
+        State::Done => 2,
+    }
+}
+
+// A row's job as a number.
+fn job_number(j: Job) -> u64
+    ensures { λ n. ⌜ n ≡ jobNumber j ⌝ }
+{
+    let state = j.state;
+    let number = state_number(state);
+    (j.left as u64 * 65536 + j.run as u64) * 3 + number
+}
+
+// One figure of a record: row i's job for an i below 16, the clock for any other.
+fn figure(q: Record, i: usize) -> u64
+    ensures { λ n. ⌜ n ≡ figureOf q i ⌝ }
+{
+    if i < 16 {
+        job_number(q.jobs[i])
+    } else {
+        q.clock as u64
+    }
+}
+
+// One figure of the record after a run.
+#[no_mangle]
+pub extern "C" fn bench_figure(
+    file: &[u8],
+    reports: &[u8],
+    log: &mut [u8],
+    buffer: &mut [u8],
+    i: usize,
+) -> u64
+    ensures figure { λ n. ⌜ n ≡ figureOf (listRan (now (file .entry)) (now (reports .entry)) (now (log .entry)) (now (buffer .entry)) .next) i ⌝ }
+    ensures bytes { λ _. ⌜ now (log .exit) ≡ listLog (now (file .entry)) (now (reports .entry)) (now (log .entry)) (now (buffer .entry)) ⌝ }
+    ensures buffer { λ _. ⌜ now (buffer .exit) ≡ listBuffer (now (file .entry)) (now (reports .entry)) (now (log .entry)) (now (buffer .entry)) ⌝ }
+{
+    let ran = run(file, reports, log, buffer);
+    let q = ran.next;
+    figure(q, i)
+}
+
+// The same slots by single ones, up to a refusal or to the log's end. Answers the slots accepted.
+#[no_mangle]
+pub extern "C" fn bench_steps(file: &[u8], reports: &[u8], log: &mut [u8]) -> usize
+    ensures slots { λ n. ⌜ n ≡ length (singleSlots (now (file .entry)) (now (reports .entry)) (now (log .entry))) ⌝ }
+    ensures bytes { λ _. ⌜ now (log .exit) ≡ singleLog (now (file .entry)) (now (reports .entry)) (now (log .entry)) ⌝ }
+{
+    let read = tablefile::read(file);
+    let t = read.table;
+    let started = slots::fresh(t);
+    let mut q = started.start;
+    let mut i: usize = 0;
+    while i < reports.len() {
+        if log.len() <= i {
+            return i;
+        }
+        let stepped = q.step(t, reports[i]);
+        let f = stepped.refusal;
+        match f {
+            Refusal::None => {
+                log[i] = stepped.ran;
+                let next = stepped.next;
+                q = next;
+                i += 1;
+            }
+            _ => {
+                return i;
+            }
+        }
+    }
+    i
+}
