@@ -157,10 +157,10 @@ fn time(slots: usize, run: impl FnOnce() -> usize) -> f64 {
 fn print(task: &Task, reports: Reports, slots: usize, times: &Times) -> bool {
     let ratio = times.library / times.rust;
     let faster = times.single / times.library;
-    let within = ratio <= task.most && task.least.map_or(true, |least| faster >= least);
+    let within = ratio < task.under && task.least.map_or(true, |least| faster >= least);
     let least = task.least.map_or(String::new(), |least| format!(", times at least {}", least));
     println!(
-        "{:<16}{:<13}{:>9}{:>10.1}{:>8.2}%{:>12.1}{:>8.2}{:>14.0}{:>8.0}   {}: ratio at most {:.1}{}",
+        "{:<16}{:<13}{:>9}{:>10.1}{:>8.2}%{:>12.1}{:>8.2}{:>14.0}{:>8.0}   {}: ratio under {:.1}{}",
         task.name,
         reports.name(),
         slots,
@@ -171,7 +171,7 @@ fn print(task: &Task, reports: Reports, slots: usize, times: &Times) -> bool {
         times.single,
         faster,
         if within { "within" } else { "NOT within" },
-        task.most,
+        task.under,
         least
     );
     within

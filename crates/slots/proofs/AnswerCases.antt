@@ -3,18 +3,17 @@
 use mathlib.Core.Path.{_≡_, refl, sym, ap, _∙_, subst}
 use mathlib.Core.Logic.{_⊎_, inl, inr}
 use mathlib.Core.Bool.{Bool, true, false, _||_}
-use mathlib.Core.List.{List, _++_}
+use mathlib.Core.List.{List}
 use Prim.Native.Nat.{ℕ, _≤_, _<_}
-use native.Mathlib.Nat.{zero-add}
 use native.Mathlib.Omega.{arith}
 use borrow.Author.Tests.{ltb-false, lt-ltb, le-ltb}
 use lib.Dec.{ltb}
-use lib.ListN.{length, drop, replicate}
-use lib.Seq.{sets-eq}
+use lib.ListN.{length, replicate}
 use Rattle.refusal.specs.declared.Refusal.{Refusal}
 use Rattle.refusal.specs.declared.Refusal.the-variants.{None, Room}
 use Rattle.refusal.specs.Order.{accepted, given, orElse, beside}
 use Rattle.refusal.specs.Lent.{overlaid}
+use Rattle.refusal.proofs.Lent.{sets-laid}
 use Rattle.refusal.proofs.Order.{Told, refused, keeps, passes, beside-refused, beside-none}
 use Rattle.table.specs.declared.Table.{Table}
 use Rattle.table.specs.declared.Checked.{Checked}
@@ -241,9 +240,7 @@ module _ {t : Table} {cycle : ℕ} {q : Record} (st : Steady t cycle q) (reps ol
 
       pub log-done : log ≡ logAfter t q reps old kept
       unfolding logAfter
-      log-done =
-          rw is-run
-          (g .written ∙ sets-eq (o .log) old 0 (omega (arith, run-short (used t) q reps, log-long)) ∙ ap (λ (n : ℕ). o .log ++ drop n old) (zero-add (length (o .log))))
+      log-done = rw is-run (g .written ∙ sets-laid (o .log) old (omega (arith, run-short (used t) q reps, log-long)))
 
       pub buffer-done : (buffer : List ℕ) → Kept (used t) cycle (r .next) kept buffer → buffer ≡ bufferAfter t q reps old kept
       unfolding bufferAfter overlaid

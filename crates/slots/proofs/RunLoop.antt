@@ -3,7 +3,7 @@
 use mathlib.Core.Path.{_≡_, refl, sym, ap, ap₂, _∙_}
 use mathlib.Core.Bool.{true, false}
 use mathlib.Core.List.{List, [], _∷_, _++_, append-assoc, append-nil}
-use Prim.Native.Nat.{ℕ, suc, _+_, _≤_, _<_}
+use Prim.Native.Nat.{ℕ, _+_, _≤_, _<_}
 use native.Mathlib.Omega.{arith}
 use native.Mathlib.Numerals.{add-one}
 use lib.ListN.{length, getD, set, drop, length-append, drop-of-length-le}
@@ -11,6 +11,7 @@ use lib.Seq.{drop-cons, set-out, sets, length-sets}
 use Rattle.refusal.specs.declared.Refusal.{Refusal}
 use Rattle.refusal.specs.declared.Refusal.the-variants.{None}
 use Rattle.refusal.specs.Order.{accepted}
+use Rattle.refusal.proofs.Lent.{sets-more}
 use Rattle.refusal.proofs.Order.{Told, refused, beside-none}
 use Rattle.table.specs.declared.Row.{Row}
 use Rattle.table.specs.declared.Table.{Table}
@@ -110,11 +111,6 @@ pub record Passed (t : Table) (reps : List ℕ) (p : Record) (a units : ℕ) (ol
 pub passed-none : (t : Table) (reps : List ℕ) (p : Record) (a units : ℕ) (old : List ℕ) → Passed t reps p a units old p a units old
 passed-none t reps p a units old = record { bytes = []; count = omega arith; is-log = refl; rest = refl; loses = refl; few = omega arith }
 
--- one run of stores after another
-sets-more : (old : List ℕ) (a : ℕ) (bs cs : List ℕ) → sets (sets old a bs) (a + length bs) cs ≡ sets old a (bs ++ cs)
-sets-more old a [] cs = let e : a + 0 ≡ a = omega arith in rw e refl
-sets-more old a (b ∷ bs) cs = let e : a + suc (length bs) ≡ suc a + length bs = omega arith in rw e (sets-more (set old a b) (suc a) bs cs)
-
 after-more : (bs cs : List ℕ) (o : Outcome) → after bs (after cs o) ≡ after (bs ++ cs) o
 after-more bs cs o = ap (λ (x : List ℕ). record { refusal = o .refusal; next = o .next; log = x }) (sym (append-assoc bs cs (o .log)))
 
@@ -123,7 +119,7 @@ pub passed-join : {t : Table} {reps : List ℕ} {p : Record} {a units : ℕ} {ol
 passed-join {t} {reps} {p} {a} {units} {old} {q} {i} {lost} {log} {r} {j} {more} {new} f g = record {
   bytes = f .bytes ++ g .bytes;
   count = omega (arith, f .count, g .count, length-append (f .bytes) (g .bytes));
-  is-log = g .is-log ∙ ap₂ (λ (x : List ℕ) (n : ℕ). sets x n (g .bytes)) (f .is-log) (f .count) ∙ sets-more old a (f .bytes) (g .bytes);
+  is-log = g .is-log ∙ ap₂ (λ (x : List ℕ) (n : ℕ). sets x n (g .bytes)) (f .is-log) (f .count) ∙ sets-more (f .bytes) (g .bytes) old a;
   rest = f .rest ∙ ap (after (f .bytes)) (g .rest) ∙ after-more (f .bytes) (g .bytes) (runOf (used t) r (drop j reps));
   loses = f .loses ∙ g .loses;
   few = omega (arith, f .few, g .few, length-append (f .bytes) (g .bytes));
