@@ -13,17 +13,6 @@ extern "C" {
         log_length: usize,
         buffer: *mut u8,
         buffer_length: usize,
-    ) -> usize;
-
-    fn bench_figure(
-        file: *const u8,
-        file_length: usize,
-        reports: *const u8,
-        reports_length: usize,
-        log: *mut u8,
-        log_length: usize,
-        buffer: *mut u8,
-        buffer_length: usize,
         i: usize,
     ) -> u64;
 
@@ -37,8 +26,9 @@ extern "C" {
     ) -> usize;
 }
 
-/// A run from the fresh record of the file's table; answers the slots accepted.
-pub fn run(file: &[u8], reports: &[u8], log: &mut [u8], buffer: &mut [u8]) -> usize {
+/// A run from the fresh record of the file's table; answers one figure of it: a row's job, at 16 the clock, past it the
+/// slots accepted.
+fn figure(file: &[u8], reports: &[u8], log: &mut [u8], buffer: &mut [u8], i: usize) -> u64 {
     // Safe here and below: each pointer stands beside its slice's length, and it is proved that no other place is used.
     unsafe {
         bench_run(
@@ -50,25 +40,19 @@ pub fn run(file: &[u8], reports: &[u8], log: &mut [u8], buffer: &mut [u8]) -> us
             log.len(),
             buffer.as_mut_ptr(),
             buffer.len(),
+            i,
         )
     }
 }
 
+/// The slots that a run accepts.
+pub fn run(file: &[u8], reports: &[u8], log: &mut [u8], buffer: &mut [u8]) -> usize {
+    figure(file, reports, log, buffer, MOST_ROWS + 1) as usize
+}
+
 /// The record after the same run, which is run again for each figure of it.
 pub fn record_after(file: &[u8], reports: &[u8], log: &mut [u8], buffer: &mut [u8]) -> Record {
-    let mut figure = |i| unsafe {
-        bench_figure(
-            file.as_ptr(),
-            file.len(),
-            reports.as_ptr(),
-            reports.len(),
-            log.as_mut_ptr(),
-            log.len(),
-            buffer.as_mut_ptr(),
-            buffer.len(),
-            i,
-        )
-    };
+    let mut figure = |i| figure(file, reports, log, buffer, i);
     let mut entries = [entry(0); MOST_ROWS];
     for (i, place) in entries.iter_mut().enumerate() {
         *place = entry(figure(i));

@@ -7,7 +7,6 @@ use borrow.Author.Tests.{lt-ltb, le-ltb}
 use Rattle.slots.specs.declared.State.{State}
 use Rattle.slots.specs.declared.State.the-variants.{Waiting, Failed, Done}
 use Rattle.slots.specs.declared.Job.{Job}
-use Rattle.slots.specs.declared.Record.{Record}
 use Rattle.slots.specs.declared.Ran.{Ran}
 use Rattle.slots.specs.Records.{jobAt}
 use Rattle.bench.specs.Numbers.{stateNumber, jobNumber, figureOf}
@@ -24,9 +23,6 @@ pub number-done : (s : State) → s ≡ Done → 2 ≡ stateNumber s
 unfolding stateNumber
 number-done s e = rw e refl
 
-pub ran-slots : (ran other : Ran) → ran ≡ other → ran .slots ≡ other .slots
-ran-slots ran other e = ap (λ (x : Ran). x .slots) e
-
 -- a state's number is less than 3, so a job's is far below 2^64
 pub number-few : (s : State) → stateNumber s < 3
 unfolding stateNumber
@@ -41,14 +37,18 @@ pub number-of : (j : Job) (n : ℕ) → n ≡ stateNumber (j .state) → (j .lef
 unfolding jobNumber
 number-of j n e = ap (λ (x : ℕ). (j .left * 65536 + j .run) * 3 + x) e
 
--- a figure of a record
-pub figure-job : (q : Record) (i n : ℕ) → i < 16 → n ≡ jobNumber (jobAt (q .jobs) i) → n ≡ figureOf q i
+-- a figure of a run's answer
+pub figure-job : (ran : Ran) (i n : ℕ) → i < 16 → n ≡ jobNumber (jobAt (ran .next .jobs) i) → n ≡ figureOf ran i
 unfolding figureOf
-figure-job q i n l e = rw (lt-ltb i 16 l) e
+figure-job ran i n l e = rw (lt-ltb i 16 l) e
 
-pub figure-clock : (q : Record) (i : ℕ) → 16 ≤ i → q .clock ≡ figureOf q i
+pub figure-clock : (ran : Ran) (i : ℕ) → 16 ≤ i → i < 17 → ran .next .clock ≡ figureOf ran i
 unfolding figureOf
-figure-clock q i l = rw (le-ltb i 16 l) refl
+figure-clock ran i l u = rw (le-ltb i 16 l) (rw (lt-ltb i 17 u) refl)
 
-pub ran-figure : (ran other : Ran) (i n : ℕ) → ran ≡ other → n ≡ figureOf (ran .next) i → n ≡ figureOf (other .next) i
-ran-figure ran other i n e h = h ∙ ap (λ (x : Ran). figureOf (x .next) i) e
+pub figure-slots : (ran : Ran) (i : ℕ) → 16 ≤ i → 17 ≤ i → ran .slots ≡ figureOf ran i
+unfolding figureOf
+figure-slots ran i l u = rw (le-ltb i 16 l) (rw (le-ltb i 17 u) refl)
+
+pub ran-figure : (ran other : Ran) (i n : ℕ) → ran ≡ other → n ≡ figureOf ran i → n ≡ figureOf other i
+ran-figure ran other i n e h = h ∙ ap (λ (x : Ran). figureOf x i) e

@@ -5,8 +5,6 @@ use denote.Ref.{now}
 use Rattle.refusal.proofs.Settles.{SettlesLent}
 use Rattle.bench.proofs.bench_run.Kinds as run-kinds
 use Rattle.bench.proofs.bench_run.Reads as run
-use Rattle.bench.proofs.bench_figure.Kinds as figure-kinds
-use Rattle.bench.proofs.bench_figure.Reads as figure
 use Rattle.bench.proofs.bench_steps.Kinds as steps-kinds
 use Rattle.bench.proofs.bench_steps.Reads as steps
 
@@ -16,12 +14,6 @@ run-unique κs a x y s t p q = (p .0 ∙ sym (q .0), p .1 .0 ∙ sym (q .1 .0))
 
 pub run-buffer-unique : SettlesLent 4 run-kinds.ps run-kinds.r (λ κs s. now (s .1 .1 .1 .0)) run.Post
 run-buffer-unique κs a x y s t p q = (p .0 ∙ sym (q .0), p .1 .1 ∙ sym (q .1 .1))
-
-pub figure-unique : SettlesLent 4 figure-kinds.ps figure-kinds.r (λ κs s. now (s .1 .1 .0)) figure.Post
-figure-unique κs a x y s t p q = (p .0 ∙ sym (q .0), p .1 .0 ∙ sym (q .1 .0))
-
-pub figure-buffer-unique : SettlesLent 4 figure-kinds.ps figure-kinds.r (λ κs s. now (s .1 .1 .1 .0)) figure.Post
-figure-buffer-unique κs a x y s t p q = (p .0 ∙ sym (q .0), p .1 .1 ∙ sym (q .1 .1))
 
 pub steps-unique : SettlesLent 3 steps-kinds.ps steps-kinds.r (λ κs s. now (s .1 .1 .0)) steps.Post
 steps-unique κs a x y s t p q = (p .0 ∙ sym (q .0), p .1 ∙ sym (q .1))

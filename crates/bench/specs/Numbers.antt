@@ -1,4 +1,4 @@
--- A record as numbers, for one that reads it from outside.
+-- A run's answer as numbers, for one that reads it from outside.
 -- Assumes nothing: these are definitions.
 use Prim.Native.Nat.{ℕ, _+_, _*_}
 use mathlib.Core.Bool.{cond}
@@ -6,7 +6,7 @@ use lib.Dec.{ltb}
 use Rattle.slots.specs.declared.State.{State}
 use Rattle.slots.specs.declared.State.the-variants.{Waiting, Failed, Done}
 use Rattle.slots.specs.declared.Job.{Job}
-use Rattle.slots.specs.declared.Record.{Record}
+use Rattle.slots.specs.declared.Ran.{Ran}
 use Rattle.slots.specs.Records.{jobAt}
 
 unfoldable pub stateNumber : State → ℕ
@@ -18,6 +18,6 @@ stateNumber Done = 2
 unfoldable pub jobNumber : Job → ℕ
 jobNumber j = (j .left * 65536 + j .run) * 3 + stateNumber (j .state)
 
--- row i's job, and past the sixteen rows the clock
-unfoldable pub figureOf : Record → ℕ → ℕ
-figureOf q i = cond (ltb i 16) (jobNumber (jobAt (q .jobs) i)) (q .clock)
+-- row i's job, past the sixteen rows the clock, and past it the slots accepted
+unfoldable pub figureOf : Ran → ℕ → ℕ
+figureOf ran i = cond (ltb i 16) (jobNumber (jobAt (ran .next .jobs) i)) (cond (ltb i 17) (ran .next .clock) (ran .slots))

@@ -6,7 +6,6 @@ ghost use Rattle.bench.specs.Numbers.{stateNumber, jobNumber, figureOf};
 use refusal::Refusal;
 use slots::Job;
 use slots::Ran;
-use slots::Record;
 use slots::State;
 
 // The run of a list over the table of a file.
@@ -20,17 +19,6 @@ fn run(file: &[u8], reports: &[u8], log: &mut [u8], buffer: &mut [u8]) -> Ran
     let started = slots::fresh(t);
     let q = started.start;
     q.run(t, reports, log, buffer)
-}
-
-// The slots that a run accepts.
-#[no_mangle]
-pub extern "C" fn bench_run(file: &[u8], reports: &[u8], log: &mut [u8], buffer: &mut [u8]) -> usize
-    ensures slots { λ n. ⌜ n ≡ listRan (now (file .entry)) (now (reports .entry)) (now (log .entry)) (now (buffer .entry)) .slots ⌝ }
-    ensures bytes { λ _. ⌜ now (log .exit) ≡ listLog (now (file .entry)) (now (reports .entry)) (now (log .entry)) (now (buffer .entry)) ⌝ }
-    ensures buffer { λ _. ⌜ now (buffer .exit) ≡ listBuffer (now (file .entry)) (now (reports .entry)) (now (log .entry)) (now (buffer .entry)) ⌝ }
-{
-    let ran = run(file, reports, log, buffer);
-    ran.slots
 }
 
 // A state as a number.
@@ -53,33 +41,35 @@ fn job_number(j: Job) -> u64
     (j.left as u64 * 65536 + j.run as u64) * 3 + number
 }
 
-// One figure of a record: row i's job for an i below 16, the clock for any other.
-fn figure(q: Record, i: usize) -> u64
-    ensures { λ n. ⌜ n ≡ figureOf q i ⌝ }
+// One figure of a run's answer: row i's job for an i below 16, the clock for 16, the slots accepted for any other.
+fn figure(ran: Ran, i: usize) -> u64
+    ensures { λ n. ⌜ n ≡ figureOf ran i ⌝ }
 {
+    let q = ran.next;
     if i < 16 {
         job_number(q.jobs[i])
-    } else {
+    } else if i < 17 {
         q.clock as u64
+    } else {
+        ran.slots as u64
     }
 }
 
-// One figure of the record after a run.
+// A run, and one figure of its answer.
 #[no_mangle]
-pub extern "C" fn bench_figure(
+pub extern "C" fn bench_run(
     file: &[u8],
     reports: &[u8],
     log: &mut [u8],
     buffer: &mut [u8],
     i: usize,
 ) -> u64
-    ensures figure { λ n. ⌜ n ≡ figureOf (listRan (now (file .entry)) (now (reports .entry)) (now (log .entry)) (now (buffer .entry)) .next) i ⌝ }
+    ensures figure { λ n. ⌜ n ≡ figureOf (listRan (now (file .entry)) (now (reports .entry)) (now (log .entry)) (now (buffer .entry))) i ⌝ }
     ensures bytes { λ _. ⌜ now (log .exit) ≡ listLog (now (file .entry)) (now (reports .entry)) (now (log .entry)) (now (buffer .entry)) ⌝ }
     ensures buffer { λ _. ⌜ now (buffer .exit) ≡ listBuffer (now (file .entry)) (now (reports .entry)) (now (log .entry)) (now (buffer .entry)) ⌝ }
 {
     let ran = run(file, reports, log, buffer);
-    let q = ran.next;
-    figure(q, i)
+    figure(ran, i)
 }
 
 // The same slots by single ones, up to a refusal or to the log's end. Answers the slots accepted.

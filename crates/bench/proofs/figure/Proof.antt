@@ -1,7 +1,7 @@
 -- `bench::figure` meets its contract.
 -- Assumes nothing.
 use borrow.Author.Needs.{needs}
-use Rattle.bench.proofs.Figures.{figure-job, figure-clock}
+use Rattle.bench.proofs.Figures.{figure-job, figure-clock, figure-slots}
 use Rattle.bench.proofs.figure.Statement.{statement}
 use Rattle.bench.proofs.figure.Tie as tie
 
@@ -23,6 +23,9 @@ returns c = search (figure-job)
 returns-2 : tie.Need-returns-2
 returns-2 c = search (figure-clock)
 
+returns-3 : tie.Need-returns-3
+returns-3 c = search (figure-slots)
+
 pub figure-spec : {M : Type 1} → statement M
 figure-spec =
     tie.close
@@ -32,4 +35,5 @@ figure-spec =
     job-number-requires
     cast-result
     returns
-    returns-2)
+    returns-2
+    returns-3)
