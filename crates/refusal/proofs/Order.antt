@@ -9,7 +9,7 @@ use borrow.Author.Tests.{eqb-true}
 use types.Run.{OneOf, miss}
 use denote.Enum.Declared.{tagOf}
 use Rattle.refusal.specs.declared.Refusal.{Refusal}
-use Rattle.refusal.specs.declared.Refusal.the-variants.{None, Empty, Many, Zero, Long, Order, Cycle, Tight, Room, Record, Report, Stray, Size, Version}
+use Rattle.refusal.specs.declared.Refusal.the-variants.{None, Empty, Many, Zero, Long, Order, Cycle, Tight, Room, Record, Report, Stray, Size, Version, Dosing, Spans}
 use Rattle.refusal.specs.Numbers.{numberOf}
 use Rattle.refusal.specs.Order.{accepted, given, orElse, beside}
 use Rattle.refusal.proofs.Refusal.{the-type}
@@ -30,13 +30,15 @@ number-none Report e = absurd (omega arith)
 number-none Stray e = absurd (omega arith)
 number-none Size e = absurd (omega arith)
 number-none Version e = absurd (omega arith)
+number-none Dosing e = absurd (omega arith)
+number-none Spans e = absurd (omega arith)
 
 pub accepted-none : (f : Refusal) → accepted f ≡ true → f ≡ None
 accepted-none f e = number-none f (eqb-true (numberOf f) 0 e)
 
 -- ---- a refusal that a `match` has told from None
 abbrev others : List ℕ
-others = 1 ∷ 2 ∷ 3 ∷ 4 ∷ 5 ∷ 6 ∷ 7 ∷ 8 ∷ 9 ∷ 10 ∷ 11 ∷ 12 ∷ 13 ∷ []
+others = 1 ∷ 2 ∷ 3 ∷ 4 ∷ 5 ∷ 6 ∷ 7 ∷ 8 ∷ 9 ∷ 10 ∷ 11 ∷ 12 ∷ 13 ∷ 14 ∷ 15 ∷ []
 
 abbrev pub Told : Refusal → Type 0
 Told f = OneOf others (tagOf the-type f)

@@ -2,7 +2,7 @@
 -- Assumes nothing: these are definitions.
 use Prim.Native.Nat.{ℕ}
 use Rattle.refusal.specs.declared.Refusal.{Refusal}
-use Rattle.refusal.specs.declared.Refusal.the-variants.{None, Empty, Many, Zero, Long, Order, Cycle, Tight, Room, Record, Report, Stray, Size, Version}
+use Rattle.refusal.specs.declared.Refusal.the-variants.{None, Empty, Many, Zero, Long, Order, Cycle, Tight, Room, Record, Report, Stray, Size, Version, Dosing, Spans}
 
 -- 'Numbers of refusal'; 0 where nothing is refused
 abbrev pub numberOf : Refusal → ℕ
@@ -20,6 +20,9 @@ numberOf Report = 10
 numberOf Stray = 11
 numberOf Size = 12
 numberOf Version = 13
+-- request 2's: 'for a dosing row outside the table', and for bag spans that can't be taken
+numberOf Dosing = 14
+numberOf Spans = 15
 
 -- 'The answer names a row for 3, 4, 5 and 7, and row 0 otherwise.'
 abbrev pub rowOf : Refusal → ℕ
@@ -37,3 +40,5 @@ rowOf Report = 0
 rowOf Stray = 0
 rowOf Size = 0
 rowOf Version = 0
+rowOf Dosing = 0
+rowOf Spans = 0

@@ -2,7 +2,7 @@
 ghost use mathlib.Core.Path.{_≡_};
 ghost use Rattle.refusal.specs.Numbers.{numberOf, rowOf};
 
-// Document 01's refusals, in the order of their numbers. Those that name a row hold it, counted from 1.
+// The refusals of documents 01 and 02, in the order of their numbers. Those that name a row hold it, counted from 1.
 pub enum Refusal {
     None,
     Empty,
@@ -18,6 +18,8 @@ pub enum Refusal {
     Stray,
     Size,
     Version,
+    Dosing,
+    Spans,
 }
 
 // The number that document 01 gives a refusal, and 0 for none.
@@ -39,6 +41,8 @@ pub fn number(f: Refusal) -> u8
         Refusal::Stray => 11,
         Refusal::Size => 12,
         Refusal::Version => 13,
+        Refusal::Dosing => 14,
+        Refusal::Spans => 15,
     }
 }
 
@@ -61,5 +65,7 @@ pub fn named_row(f: Refusal) -> u8
         Refusal::Stray => 0,
         Refusal::Size => 0,
         Refusal::Version => 0,
+        Refusal::Dosing => 0,
+        Refusal::Spans => 0,
     }
 }

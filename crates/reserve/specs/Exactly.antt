@@ -7,7 +7,7 @@ use mathlib.Core.List.{List}
 use Prim.Native.Nat.{ℕ, zero, suc, _≤_, _<_}
 use lib.ListN.{length}
 use Rattle.refusal.specs.declared.Refusal.{Refusal}
-use Rattle.refusal.specs.declared.Refusal.the-variants.{None, Empty, Many, Zero, Long, Order, Cycle, Tight, Room, Record, Report, Stray, Size, Version}
+use Rattle.refusal.specs.declared.Refusal.the-variants.{None, Empty, Many, Zero, Long, Order, Cycle, Tight, Room, Record, Report, Stray, Size, Version, Dosing, Spans}
 use Rattle.table.specs.declared.Row.{Row}
 use Rattle.table.specs.declared.Table.{Table}
 use Rattle.table.specs.Rows.{used, rowAt, cycleOf}
@@ -76,6 +76,8 @@ RowsGives t Report = ⊥
 RowsGives t Stray = ⊥
 RowsGives t Size = ⊥
 RowsGives t Version = ⊥
+RowsGives t Dosing = ⊥
+RowsGives t Spans = ⊥
 
 -- and of those that refuse it by 7 too
 unfoldable pub TableGives : Table → Refusal → Type 0
@@ -96,6 +98,8 @@ TableGives t Report = ⊥
 TableGives t Stray = ⊥
 TableGives t Size = ⊥
 TableGives t Version = ⊥
+TableGives t Dosing = ⊥
+TableGives t Spans = ⊥
 
 -- ---- what is refused where a list is handed out: `new` is the list, `old` what the lent output holds
 unfoldable pub HandedGives : Table → List ℕ → List ℕ → Refusal → Type 0
@@ -116,3 +120,5 @@ HandedGives t new old Report = ⊥
 HandedGives t new old Stray = ⊥
 HandedGives t new old Size = ⊥
 HandedGives t new old Version = ⊥
+HandedGives t new old Dosing = ⊥
+HandedGives t new old Spans = ⊥

@@ -7,7 +7,7 @@ use mathlib.Core.List.{List}
 use Prim.Native.Nat.{ℕ, _-_, _≤_, _<_}
 use lib.ListN.{length}
 use Rattle.refusal.specs.declared.Refusal.{Refusal}
-use Rattle.refusal.specs.declared.Refusal.the-variants.{None, Empty, Many, Zero, Long, Order, Cycle, Tight, Room, Report, Stray, Size, Version}
+use Rattle.refusal.specs.declared.Refusal.the-variants.{None, Empty, Many, Zero, Long, Order, Cycle, Tight, Room, Report, Stray, Size, Version, Dosing, Spans}
 use Rattle.refusal.specs.declared.Refusal.the-variants.{Record as NotSound}
 use Rattle.table.specs.declared.Row.{Row}
 use Rattle.table.specs.declared.Table.{Table}
@@ -77,6 +77,8 @@ RecordGives t q Report = ⊥
 RecordGives t q Stray = ⊥
 RecordGives t q Size = ⊥
 RecordGives t q Version = ⊥
+RecordGives t q Dosing = ⊥
+RecordGives t q Spans = ⊥
 
 -- ---- one slot
 -- the slot ran a primary
@@ -102,6 +104,8 @@ ReportGives w rep Room = ⊥
 ReportGives w rep NotSound = ⊥
 ReportGives w rep Size = ⊥
 ReportGives w rep Version = ⊥
+ReportGives w rep Dosing = ⊥
+ReportGives w rep Spans = ⊥
 
 -- 1 to 7, 9, then 10 before 11
 unfoldable pub SlotGives : Table → Record → ℕ → Refusal → Type 0

@@ -6,7 +6,7 @@ use mathlib.Core.List.{List}
 use Prim.Native.Nat.{ℕ, _≤_, _<_}
 use lib.ListN.{length}
 use Rattle.refusal.specs.declared.Refusal.{Refusal}
-use Rattle.refusal.specs.declared.Refusal.the-variants.{None, Empty, Many, Zero, Long, Order, Cycle, Tight, Room, Record, Report, Stray, Size, Version}
+use Rattle.refusal.specs.declared.Refusal.the-variants.{None, Empty, Many, Zero, Long, Order, Cycle, Tight, Room, Record, Report, Stray, Size, Version, Dosing, Spans}
 use Rattle.reserve.specs.Exactly.{Counted, TableGives}
 use Rattle.tablefile.specs.Layout.{lengthFor, lengthField, following, versionByte, countByte, tableFrom}
 
@@ -51,3 +51,5 @@ FileGives s Room = ⊥
 FileGives s Record = ⊥
 FileGives s Report = ⊥
 FileGives s Stray = ⊥
+FileGives s Dosing = ⊥
+FileGives s Spans = ⊥
