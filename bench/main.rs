@@ -14,6 +14,7 @@ mod numbers;
 #[path = "../second/record.rs"]
 mod record;
 #[path = "../second/refusal.rs"]
+#[allow(dead_code)]
 mod refusal;
 #[path = "../second/rule.rs"]
 #[allow(dead_code)]

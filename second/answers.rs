@@ -1,7 +1,8 @@
 //! The answer line of a case.
 
+use crate::bags;
 use crate::file;
-use crate::form::{Body, Input, Next, RECORD_PLACE, REPORT_PLACE, RUN_REPORT_PLACE, TABLE_PLACE};
+use crate::form::{Body, Input, Next, DOSING_PLACE, RECORD_PLACE, REPORT_PLACE, RUN_REPORT_PLACE, TABLE_PLACE};
 use crate::kept;
 use crate::record::{self, Record, State};
 use crate::refusal::{self, Refusal};
@@ -10,8 +11,8 @@ use crate::run;
 use crate::table::{self, Table};
 use std::io::{self, Write};
 
-/// The names of kinds 1 to 15, with which their lines begin.
-pub const NAMES: [&str; 15] = [
+/// The names of kinds 1 to 16, with which their lines begin.
+pub const NAMES: [&str; 16] = [
     "gcd",
     "rows",
     "check",
@@ -27,6 +28,7 @@ pub const NAMES: [&str; 15] = [
     "run",
     "lost",
     "lostfresh",
+    "bags",
 ];
 
 /// How many places past the lent ones are printed.
@@ -75,6 +77,7 @@ pub fn answer(bytes: &[u8]) -> Answer {
         13 => run(&body),
         14 => lost(&body),
         15 => lost_fresh(&body),
+        16 => bags(&body),
         _ => return Answer { kind, number: 0, line: format!("unknown {}", kind) },
     };
     let (refusal, rest) = fields;
@@ -226,6 +229,20 @@ fn lost_units(course: Result<run::Course, Refusal>) -> Fields {
         Ok(course) => (course.refusal, "0".to_string()),
         Err(refusal) => (refusal, "0".to_string()),
     }
+}
+
+/// `bags N R SHARES BYTES`: "sixteen fields `mark/done/of/BITS`".
+fn bags(body: &Body) -> Fields {
+    let room = body.room();
+    let mut marks = lent(body, room);
+    let row = body.byte(DOSING_PLACE);
+    let report = bags::report(&body.table(), body.bag_reports(), row, &body.spans(), &mut marks[..room]);
+    let mut line = String::new();
+    for share in report.shares {
+        line.push_str(&format!("{}/{}/{}/{:016x} ", share.mark, share.done, share.of, share.share.to_bits()));
+    }
+    line.push_str(&hexadecimal(&marks));
+    (report.refusal, line)
 }
 
 /// Refusal 8 comes after those of the table; beside a refusal nothing is used.

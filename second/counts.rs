@@ -4,7 +4,7 @@ use crate::answers::{self, NAMES};
 use crate::form::{Input, Next};
 
 /// The numbers of refusal that each entry can give, kind by kind, with 0 for an accepted case.
-const GIVES: [&[usize]; 15] = [
+const GIVES: [&[usize]; NAMES.len()] = [
     &[0],
     &[0, 1, 2, 3, 4, 5, 6],
     &[0, 1, 2, 3, 4, 5, 6, 7],
@@ -20,15 +20,16 @@ const GIVES: [&[usize]; 15] = [
     &[0, 1, 2, 3, 4, 5, 6, 7, 8, 9, 10, 11],
     &[0, 1, 2, 3, 4, 5, 6, 7, 9, 10, 11],
     &[0, 1, 2, 3, 4, 5, 6, 7, 10, 11],
+    &[0, 1, 2, 3, 4, 5, 6, 7, 8, 10, 11, 14, 15],
 ];
 
 /// How many numbers of refusal there are, 0 among them.
-const NUMBERS: usize = 14;
+const NUMBERS: usize = 16;
 
 /// What was met in an input.
 struct Counts {
     /// By kind, from 1, and number.
-    met: [[u64; NUMBERS]; 15],
+    met: [[u64; NUMBERS]; NAMES.len()],
     unknown: u64,
     /// Whether the input ended as it should.
     whole: bool,
@@ -51,12 +52,12 @@ pub fn report(input: &[u8]) -> (String, bool) {
 }
 
 fn count(input: &[u8]) -> Counts {
-    let mut counts = Counts { met: [[0; NUMBERS]; 15], unknown: 0, whole: false };
+    let mut counts = Counts { met: [[0; NUMBERS]; NAMES.len()], unknown: 0, whole: false };
     let mut input = Input::new(input);
     while let Next::Body(body) = input.take() {
         let answer = answers::answer(body);
         match answer.kind {
-            1..=15 => counts.met[usize::from(answer.kind) - 1][usize::from(answer.number)] += 1,
+            1..=16 => counts.met[usize::from(answer.kind) - 1][usize::from(answer.number)] += 1,
             _ => counts.unknown += 1,
         }
     }

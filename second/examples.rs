@@ -235,7 +235,7 @@ fn made(write: fn(u64, u64, &mut dyn Write) -> io::Result<()>, seed: u64, n: u64
 
 #[test]
 fn counts_tell_what_is_missing() {
-    let all = made(cases::write_all, 3, 1_100);
+    let all = made(cases::write_all, 3, 1_600);
     assert!(counts::report(&all).1);
     let (text, complete) = counts::report(&all[..all.len() - 1]);
     assert!(!complete && text.contains("the input is cut off"));
@@ -245,23 +245,23 @@ fn counts_tell_what_is_missing() {
     let mut input = Input::new(&all);
     let mut others = Vec::new();
     while let Next::Body(body) = input.take() {
-        if body.first() != Some(&cases::draft::LOST_FRESH) {
+        if body.first() != Some(&cases::draft::BAGS) {
             others.extend_from_slice(&(body.len() as u16).to_be_bytes());
             others.extend_from_slice(body);
         }
     }
     let (text, complete) = counts::report(&others);
-    assert!(!complete && text.matches("missing: ").count() == text.matches("missing: no case of lostfresh").count());
-    assert_eq!(text.matches("missing: ").count(), 10);
+    assert!(!complete && text.matches("missing: ").count() == text.matches("missing: no case of bags").count());
+    assert_eq!(text.matches("missing: ").count(), 13);
 }
 
 #[test]
 fn cases_are_the_same_for_a_seed_and_a_smaller_number_cuts_them_short() {
     for write in [cases::write_all, cases::write_fresh] {
-        let long = made(write, 7, 1_500);
-        assert_eq!(long, made(write, 7, 1_500));
+        let long = made(write, 7, 1_600);
+        assert_eq!(long, made(write, 7, 1_600));
         assert!(long.starts_with(&made(write, 7, 100)));
-        assert_ne!(long, made(write, 8, 1_500));
-        assert_eq!(lines(&long).lines().count(), 1_500);
+        assert_ne!(long, made(write, 8, 1_600));
+        assert_eq!(lines(&long).lines().count(), 1_600);
     }
 }

@@ -17,6 +17,14 @@ pub const REPORT_PLACE: usize = 183;
 pub const BUFFER_PLACE: usize = 183;
 pub const RUN_REPORT_PLACE: usize = 185;
 
+/// Where a bag report has its dosing row, how many numbers its spans have, and those; its reports come after them.
+pub const DOSING_PLACE: usize = 101;
+pub const SPAN_COUNT_PLACE: usize = 102;
+pub const SPANS_PLACE: usize = 103;
+
+/// "where over 64 counts as 64"
+pub const MOST_SPAN_NUMBERS: usize = 64;
+
 /// What comes next in an input: a case's body, or a reason to stop.
 #[derive(Debug, PartialEq, Eq)]
 pub enum Next<'a> {
@@ -74,6 +82,11 @@ impl<'a> Body<'a> {
         u16::from_be_bytes([self.byte(place), self.byte(place + 1)])
     }
 
+    /// A number of eight bytes.
+    fn long(&self, place: usize) -> u64 {
+        (place..place + 8).fold(0, |number, place| 256 * number + u64::from(self.byte(place)))
+    }
+
     /// "the body's bytes from place ... on"; none "where the body ends before its first place".
     pub fn list_at(&self, place: usize) -> &'a [u8] {
         self.bytes.get(place..).unwrap_or(&[])
@@ -93,6 +106,20 @@ impl<'a> Body<'a> {
 
     pub fn buffer_room(&self) -> usize {
         self.room_at(BUFFER_PLACE)
+    }
+
+    /// The numbers of a bag report's list of spans.
+    pub fn spans(&self) -> Vec<u64> {
+        (0..self.span_count()).map(|index| self.long(SPANS_PLACE + 8 * index)).collect()
+    }
+
+    /// A bag report's reports, which stand after its spans.
+    pub fn bag_reports(&self) -> &'a [u8] {
+        self.list_at(SPANS_PLACE + 8 * self.span_count())
+    }
+
+    fn span_count(&self) -> usize {
+        usize::from(self.byte(SPAN_COUNT_PLACE)).min(MOST_SPAN_NUMBERS)
     }
 
     fn room_at(&self, place: usize) -> usize {

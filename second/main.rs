@@ -5,8 +5,11 @@
 #[cfg(test)]
 mod anew;
 mod answers;
+mod bags;
 mod cases;
 mod counts;
+#[cfg(test)]
+mod dosed;
 #[cfg(test)]
 mod examples;
 mod file;

@@ -19,6 +19,8 @@ pub const REPORT: Refusal = Refusal { number: 10, row: 0 };
 pub const STRAY: Refusal = Refusal { number: 11, row: 0 };
 pub const SIZE: Refusal = Refusal { number: 12, row: 0 };
 pub const VERSION: Refusal = Refusal { number: 13, row: 0 };
+pub const DOSING: Refusal = Refusal { number: 14, row: 0 };
+pub const SPANS: Refusal = Refusal { number: 15, row: 0 };
 
 pub fn zero(row: u8) -> Refusal {
     Refusal { number: 3, row }

@@ -1,7 +1,7 @@
 //! A random case of a random kind.
 
 use super::draft::*;
-use super::{files, records, reports, tables};
+use super::{files, records, reports, spans, tables};
 use crate::form::BUFFER_PLACE;
 use crate::numbers::Numbers;
 use crate::record;
@@ -9,7 +9,7 @@ use crate::rule;
 use crate::table::{self, Checked};
 
 /// How often each kind is made, kind 1 first.
-const WEIGHTS: [usize; 15] = [2, 3, 8, 8, 8, 7, 10, 5, 4, 8, 6, 12, 14, 10, 7];
+const WEIGHTS: [usize; 16] = [2, 3, 8, 8, 8, 7, 10, 5, 4, 8, 6, 12, 14, 10, 7, 5];
 
 pub fn body(numbers: &mut Numbers) -> Vec<u8> {
     let mut draft = Draft::new(numbers.weighted(&WEIGHTS) as u8 + 1);
@@ -20,6 +20,7 @@ pub fn body(numbers: &mut Numbers) -> Vec<u8> {
         ROWS | CHECK | FRESH => draft.table = tables::mostly_accepted(numbers, 2),
         LIST | FIRSTS | WRITE => table_and_room(numbers, &mut draft),
         LOST_FRESH => table_and_reports(numbers, &mut draft),
+        BAGS => table_and_bags(numbers, &mut draft),
         _ => table_and_record(numbers, &mut draft),
     }
     draft.done = if numbers.one_in(8) { numbers.between(2, 255) as u8 } else { 2 };
@@ -73,6 +74,22 @@ fn table_and_reports(numbers: &mut Numbers, draft: &mut Draft) {
     };
 }
 
+fn table_and_bags(numbers: &mut Numbers, draft: &mut Draft) {
+    table_and_reports(numbers, draft);
+    let n = draft.table.used().len().max(1) as u8;
+    draft.row = spans::dosing_row(numbers, n);
+    // Where the dosing row isn't there, or the table is refused, another period will do.
+    let place = usize::from(draft.row.clamp(1, n)) - 1;
+    let period = usize::from(draft.table.rows[place].period).max(1);
+    if let (Ok(checked), true) = (rule::check(&draft.table), numbers.one_in(2)) {
+        // Several jobs' deadlines come, and the last one just so or not quite.
+        let slots = (numbers.between(1, 12) * period).min(200) - numbers.below(2);
+        draft.list = reports::right_list(numbers, &checked, &record::fresh(&checked.rows), slots);
+    }
+    draft.spans = spans::mixed(numbers, draft.list.len(), period);
+    draft.room = room_of_run(numbers, draft.spans.len() / 2) as u16;
+}
+
 /// The kinds with a table and a record.
 fn table_and_record(numbers: &mut Numbers, draft: &mut Draft) {
     draft.table = tables::mostly_accepted(numbers, 8);
@@ -103,7 +120,7 @@ fn record_and_reports(numbers: &mut Numbers, draft: &mut Draft, checked: &Checke
     };
 }
 
-/// A log and a buffer are mostly long enough, so that most runs run.
+/// A log, a buffer and the bytes for bags are mostly long enough, so that most runs run.
 fn room_of_run(numbers: &mut Numbers, need: usize) -> usize {
     match numbers.weighted(&[70, 18, 12]) {
         0 => need,

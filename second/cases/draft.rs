@@ -19,6 +19,7 @@ pub const STEP: u8 = 12;
 pub const RUN: u8 = 13;
 pub const LOST: u8 = 14;
 pub const LOST_FRESH: u8 = 15;
+pub const BAGS: u8 = 16;
 
 /// The arguments of a case of any kind; those that its kind doesn't have are left out of its body.
 #[derive(Clone)]
@@ -32,6 +33,9 @@ pub struct Draft {
     pub record: Record,
     /// The byte that stands for done, "anything else" than 0 and 1.
     pub done: u8,
+    /// The dosing row of a bag report, and its list of spans.
+    pub row: u8,
+    pub spans: Vec<u64>,
     /// What stands after the other arguments: x and y, a file, a report or the reports.
     pub list: Vec<u8>,
     /// Whether zeros at the body's end stay although they may be left out.
@@ -48,6 +52,8 @@ impl Draft {
             table: Table::zeros(),
             record: record::fresh(&[]),
             done: 2,
+            row: 0,
+            spans: Vec::new(),
             list: Vec::new(),
             whole: false,
         }
@@ -80,6 +86,13 @@ impl Draft {
         self
     }
 
+    /// The dosing row and the spans, of which a body can have 64 numbers, and room for the mark of each whole pair.
+    pub fn bags(mut self, row: u8, spans: &[u64]) -> Draft {
+        self.row = row;
+        self.spans = spans.to_vec();
+        self.room(spans.len() / 2)
+    }
+
     /// The body: each argument at its place; "zeros at a body's end may be left out, but for those of a file or of a
     /// list of reports".
     pub fn body(&self) -> Vec<u8> {
@@ -94,8 +107,11 @@ impl Draft {
         if self.kind == RUN {
             body.extend_from_slice(&self.buffer.to_be_bytes());
         }
+        if self.kind == BAGS {
+            self.put_spans(&mut body);
+        }
         body.extend_from_slice(self.listed());
-        let ends_with_list = matches!(self.kind, READ | RUN | LOST | LOST_FRESH) && !self.list.is_empty();
+        let ends_with_list = matches!(self.kind, READ | RUN | LOST | LOST_FRESH | BAGS) && !self.list.is_empty();
         if !ends_with_list && !self.whole {
             while body.last() == Some(&0) {
                 body.pop();
@@ -104,12 +120,12 @@ impl Draft {
         body
     }
 
-    /// The place after the table and the record, where the kind has them. Between it and a run's list stands the room of
-    /// its buffer.
+    /// The place after the table and the record, where the kind has them. Between it and a run's list stands the room
+    /// of its buffer, and between it and a bag report's list stand its row and spans.
     fn list_place(&self) -> usize {
         match self.kind {
             GCD | READ => TABLE_PLACE,
-            ROWS | CHECK | LIST | FIRSTS | WRITE | FRESH | LOST_FRESH => RECORD_PLACE,
+            ROWS | CHECK | LIST | FIRSTS | WRITE | FRESH | LOST_FRESH | BAGS => RECORD_PLACE,
             _ => REPORT_PLACE,
         }
     }
@@ -117,7 +133,7 @@ impl Draft {
     /// What of the list the kind has: `step` has one report.
     fn listed(&self) -> &[u8] {
         match self.kind {
-            GCD | READ | RUN | LOST | LOST_FRESH => &self.list,
+            GCD | READ | RUN | LOST | LOST_FRESH | BAGS => &self.list,
             STEP => &self.list[..self.list.len().min(1)],
             _ => &[],
         }
@@ -129,6 +145,13 @@ impl Draft {
             for number in [row.period, row.p, row.a] {
                 body.extend_from_slice(&number.to_be_bytes());
             }
+        }
+    }
+
+    fn put_spans(&self, body: &mut Vec<u8>) {
+        body.extend_from_slice(&[self.row, self.spans.len() as u8]);
+        for number in &self.spans {
+            body.extend_from_slice(&number.to_be_bytes());
         }
     }
 

@@ -2,8 +2,8 @@
 
 use super::draft::Draft;
 use super::{
-    fixed_buffers, fixed_examples, fixed_files, fixed_forms, fixed_long, fixed_records, fixed_reports, fixed_rooms,
-    fixed_tables,
+    fixed_bags, fixed_buffers, fixed_dosing, fixed_examples, fixed_files, fixed_forms, fixed_long, fixed_records,
+    fixed_reports, fixed_rooms, fixed_tables,
 };
 use crate::numbers::Numbers;
 
@@ -16,6 +16,7 @@ pub fn bodies(numbers: &mut Numbers) -> Vec<Vec<u8>> {
         bodies.push(draft.body());
     }
     bodies.extend(fixed_buffers::bodies());
+    bodies.extend(fixed_bags::bodies());
     bodies.extend(fixed_forms::bodies());
     bodies
 }
@@ -29,5 +30,7 @@ fn drafts() -> Vec<Draft> {
     drafts.extend(fixed_reports::drafts());
     drafts.extend(fixed_buffers::drafts());
     drafts.extend(fixed_long::drafts());
+    drafts.extend(fixed_bags::drafts());
+    drafts.extend(fixed_dosing::drafts());
     drafts
 }

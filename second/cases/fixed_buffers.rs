@@ -35,7 +35,7 @@ pub fn bodies() -> Vec<Vec<u8>> {
 fn rooms() -> Vec<Draft> {
     let base = table_of(&BASE);
     let reports = [0, 1, 0, 1, 0, 0, 0];
-    let rooms = [0, 1, 6, 11, 12, 13, 20, 16_385, 65_535];
+    let rooms = [0, 1, 6, 11, 12, 13, 20, 65_535];
     rooms.iter().map(|room| from_fresh(RUN, &base, &reports).buffer(*room)).collect()
 }
 

@@ -19,6 +19,9 @@ pub fn p1() -> Table {
     table_of(&[(5, 2, 1), (6, 2, 2)])
 }
 
+/// The reports of P2.
+pub const P2_REPORTS: [u8; 10] = [0, 2, 0, 0, 0, 0, 0, 1, 0, 1];
+
 /// A draft of a run, or of another kind with a record and reports, from the table's fresh record.
 pub fn from_fresh(kind: u8, table: &Table, reports: &[u8]) -> Draft {
     let record = record::fresh(table.used());
@@ -40,12 +43,13 @@ fn figures() -> Vec<Draft> {
 
 /// P2, P3 and P10.
 fn runs() -> Vec<Draft> {
-    let lists: [&[u8]; 3] = [&[0, 2, 0, 0, 0, 0, 0, 1, 0, 1], &[0, 1, 0, 1, 0], &[0, 2, 0, 1]];
+    let lists: [&[u8]; 3] = [&P2_REPORTS, &[0, 1, 0, 1, 0], &[0, 2, 0, 1]];
     let mut drafts = Vec::new();
     for reports in lists {
         for kind in [RUN, LOST, LOST_FRESH] {
             drafts.push(from_fresh(kind, &p1(), reports));
         }
+        drafts.push(from_fresh(BAGS, &p1(), reports).bags(1, &[0, 5]));
     }
     // P3 after slot 1: the first slot of row 2 is no longer 3, so its primary runs there.
     for clock in 2..=3 {
@@ -83,6 +87,7 @@ fn full_row() -> Vec<Draft> {
         Draft::new(CHECK).table(&p8),
         from_fresh(RUN, &p8, &[0, 0, 0, 0]),
         from_fresh(LOST_FRESH, &p8, &[0, 0, 0, 0]),
+        from_fresh(BAGS, &p8, &[0, 0, 0, 0]).bags(1, &[0, 4]),
     ];
     let p9 = record_of(1, &[(State::Waiting, 0, 4)]);
     for kind in [CLOCK, ASKED, WAITING, STEP, RUN, LOST] {

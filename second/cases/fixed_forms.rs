@@ -6,11 +6,11 @@ use crate::file;
 
 pub fn bodies() -> Vec<Vec<u8>> {
     let mut bodies = vec![vec![]];
-    for kind in [0, 16, 17, 128, 255] {
+    for kind in [0, 17, 18, 128, 255] {
         bodies.push(vec![kind]);
         bodies.push(vec![kind, 1, 0, 2, 1, 0, 4, 0, 1, 0, 1]);
     }
-    for kind in 1..=15 {
+    for kind in 1..=16 {
         bodies.extend(short(kind));
         bodies.push(long(kind));
     }
@@ -24,9 +24,10 @@ fn whole(kind: u8) -> Vec<u8> {
         READ => file::bytes_of(&p1()),
         STEP => vec![1],
         RUN | LOST | LOST_FRESH => vec![0, 1, 0],
+        BAGS => vec![0, 1, 0, 1, 0],
         _ => vec![],
     };
-    let mut draft = from_fresh(kind, &p1(), &list).room(31);
+    let mut draft = from_fresh(kind, &p1(), &list).bags(1, &[0, 4, 4, 5]).room(31);
     draft.whole = true;
     draft.body()
 }

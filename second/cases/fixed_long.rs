@@ -3,29 +3,26 @@
 use super::draft::*;
 use super::fixed_examples::from_fresh;
 use super::reports;
-use crate::numbers::Numbers;
-use crate::record;
 use crate::rule;
 use crate::table::Table;
 
 /// How far a run goes on after the cycle's end.
 const PAST: usize = 150;
 
-/// For the reports alone: they are the same for every seed.
-const SEED: u64 = 1;
+/// Bags of such a run: some in its middle, and one across the cycle's end.
+const BAG_SPANS: [u64; 8] = [0, 511, 512, 1024, 1500, 3000, 4000, 4100];
 
 pub fn drafts() -> Vec<Draft> {
     let mut drafts = Vec::new();
     for table in [two_rows(), sixteen_rows(), table_of(&[(63, 1, 1), (64, 1, 1)])] {
         if let Ok(checked) = rule::check(&table) {
-            let fresh = record::fresh(&checked.rows);
-            let mut numbers = Numbers::new(SEED);
-            let reports = reports::right_list(&mut numbers, &checked, &fresh, checked.cycle + PAST);
+            let reports = reports::steady(&checked, checked.cycle + PAST);
             drafts.push(Draft::new(LIST).table(&table).room(checked.cycle));
             drafts.push(Draft::new(FIRSTS).table(&table).room(rule::first_slots(&checked).len()));
             drafts.push(from_fresh(RUN, &table, &reports));
             drafts.push(from_fresh(LOST, &table, &reports));
             drafts.push(from_fresh(LOST_FRESH, &table, &vec![0; checked.cycle + PAST]));
+            drafts.push(from_fresh(BAGS, &table, &reports).bags(2, &BAG_SPANS));
         }
     }
     drafts

@@ -5,7 +5,7 @@ use super::faults::{self, Fault};
 use super::fixed_examples::from_fresh;
 
 /// The entries that take a table, besides `rows` and `check`.
-const OTHERS: [u8; 11] = [LIST, FIRSTS, CLOCK, WRITE, FRESH, ASKED, WAITING, STEP, RUN, LOST, LOST_FRESH];
+const OTHERS: [u8; 12] = [LIST, FIRSTS, CLOCK, WRITE, FRESH, ASKED, WAITING, STEP, RUN, LOST, LOST_FRESH, BAGS];
 
 pub fn drafts() -> Vec<Draft> {
     let mut drafts = divisors();
@@ -65,11 +65,12 @@ fn some_faults() -> Vec<Draft> {
     drafts
 }
 
-/// A case whose table is refused. Its record, rooms and reports would be refused too, but come later in the order.
+/// A case whose table is refused. What else it has would be refused too, but comes later in the order.
 fn refused(kind: u8, fault: &Fault) -> Draft {
     let mut record = record_of(65_535, &[]);
     record.entries[0].left = u16::from(fault.number);
-    Draft::new(kind).table(&fault.table).record(&record).list(&[3, 1]).room(1).buffer(1)
+    let draft = Draft::new(kind).table(&fault.table).record(&record).list(&[3, 1]);
+    draft.bags(0, &[3, 3, 2, 1, 0]).room(1).buffer(1)
 }
 
 fn accepted() -> Vec<Draft> {

@@ -5,7 +5,9 @@ pub mod draft;
 pub mod faults;
 mod files;
 mod fixed;
+mod fixed_bags;
 mod fixed_buffers;
+mod fixed_dosing;
 pub mod fixed_examples;
 mod fixed_files;
 mod fixed_forms;
@@ -16,6 +18,7 @@ mod fixed_rooms;
 mod fixed_tables;
 mod records;
 mod reports;
+mod spans;
 mod tables;
 
 use crate::numbers::Numbers;

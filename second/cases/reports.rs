@@ -1,7 +1,7 @@
 //! Random reports and lists of them.
 
 use crate::numbers::Numbers;
-use crate::record::Record;
+use crate::record::{self, Record};
 use crate::run::{self, Work};
 use crate::table::Checked;
 
@@ -79,6 +79,11 @@ pub fn right_list(numbers: &mut Numbers, checked: &Checked, record: &Record, slo
         }
     }
     reports
+}
+
+/// Such reports from a fresh start, for the cases that are the same for every seed.
+pub fn steady(checked: &Checked, slots: usize) -> Vec<u8> {
+    right_list(&mut Numbers::new(1), checked, &record::fresh(&checked.rows), slots)
 }
 
 /// The list with a report 1 or 2 in one of the slots that run no primary, if it has any; what follows stays, with now

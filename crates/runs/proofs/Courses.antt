@@ -118,3 +118,16 @@ pub course-served : (rs : List Row) → Usable rs → (N : ℕ) (recs : ℕ → 
     → AllServed rs N works reports
 unfolding AllServed
 course-served rs ok N recs works reports c k row j one = served rs ok N recs works reports c k row j one
+
+-- and of a job whose deadline has come: over its whole window its story in JobStory holds, and after it nothing is left
+pub job-window : (rs : List Row) → Usable rs → (N : ℕ) (recs : ℕ → Record) (works : ℕ → Work) (reports : ℕ → ℕ) → Course rs (freshOf rs) N recs works reports
+    → (k : ℕ) → k < length rs → (j : ℕ) → 1 ≤ j → closes (rowAt rs k) j ≤ N
+    → (J : ℕ → Job)
+    × Window k (rowAt rs k) (opens (rowAt rs k) j) (closes (rowAt rs k) j - opens (rowAt rs k) j) works reports (newJob (rowAt rs k)) J
+    × (J (closes (rowAt rs k) j - opens (rowAt rs k) j) .left ≡ 0)
+job-window rs ok N recs works reports c k row j one due =
+    let o : opens (rowAt rs k) j < closes (rowAt rs k) j = opened rs ok N recs works reports c k row j one in (
+      J rs ok N recs works reports c k row j one,
+      win rs ok N recs works reports c k row j one (closes (rowAt rs k) j - opens (rowAt rs k) j) (omega arith) (omega arith),
+      none-left rs ok N recs works reports c k row j one due,
+    )

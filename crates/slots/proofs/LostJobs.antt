@@ -89,17 +89,17 @@ loss-act k w rep r j j' (falls-back v x e) =
     omega (arith, ap (lossOf j k) v, loss-here j k, ap (λ (x : Job). openOf x) e, open-not (onAlternate j) (alternate-ends j))
 
 -- ---- how a slot may end a job's primary
-ends-not : (k p : ℕ) (w : Work) (rep u : ℕ) → isPrimary k w ≡ false → isAlternate k w ≡ false → endsBy k p w rep u ≡ going
+pub ends-not : (k p : ℕ) (w : Work) (rep u : ℕ) → isPrimary k w ≡ false → isAlternate k w ≡ false → endsBy k p w rep u ≡ going
 unfolding endsBy isPrimary isAlternate
 ends-not k p idle rep u x y = refl
 ends-not k p (primary i) rep u x y = ap (λ (b : Bool). cond b (byReport rep p u) going) x
 ends-not k p (alternate i) rep u x y = ap (λ (b : Bool). cond b aborted going) y
 
-ends-tried : (k p rep u : ℕ) → endsBy k p (primary k) rep u ≡ byReport rep p u
+pub ends-tried : (k p rep u : ℕ) → endsBy k p (primary k) rep u ≡ byReport rep p u
 unfolding endsBy
 ends-tried k p rep u = ap (λ (b : Bool). cond b (byReport rep p u) going) (eq-eqb k k refl)
 
-ends-fallen : (k p rep u : ℕ) → endsBy k p (alternate k) rep u ≡ aborted
+pub ends-fallen : (k p rep u : ℕ) → endsBy k p (alternate k) rep u ≡ aborted
 unfolding endsBy
 ends-fallen k p rep u = ap (λ (b : Bool). cond b aborted going) (eq-eqb k k refl)
 
@@ -180,7 +180,7 @@ module _ (works : ℕ → Work) (reports : ℕ → ℕ) (k p s : ℕ) (j : Job) 
   abbrev run : ℕ → ℕ
   run n = unitsRun works k s j n
 
-  ending-none : ending 0 ≡ endedAt (j .state)
+  pub ending-none : ending 0 ≡ endedAt (j .state)
   unfolding endingOf
   ending-none = refl
 
@@ -205,7 +205,7 @@ module _ (works : ℕ → Work) (reports : ℕ → ℕ) (k p s : ℕ) (j : Job) 
 
   -- so in a slot in which row k doesn't run
   module _ (n : ℕ) (x : isPrimary k (works (s + n)) ≡ false) (y : isAlternate k (works (s + n)) ≡ false) where
-    ending-rests : ending (suc n) ≡ ending n
+    pub ending-rests : ending (suc n) ≡ ending n
     ending-rests = ending-more n ∙ ap (orLater (ending n)) (ends-not k p (works (s + n)) (reports (s + n)) (run (suc n)) x y) ∙ later-not (ending n)
 
     lost-rests : lostIn (suc n) ≡ lostIn n
@@ -213,19 +213,19 @@ module _ (works : ℕ → Work) (reports : ℕ → ℕ) (k p s : ℕ) (j : Job) 
 
   -- the slot that ends it, and any slot after that
   module _ (n : ℕ) where
-    ending-tried : works (s + n) ≡ primary k → ending n ≡ going → ending (suc n) ≡ byReport (reports (s + n)) p (run (suc n))
+    pub ending-tried : works (s + n) ≡ primary k → ending n ≡ going → ending (suc n) ≡ byReport (reports (s + n)) p (run (suc n))
     ending-tried v g =
         ending-more n
         ∙ ap₂ (λ (e : Ending) (w : Work). orLater e (endsBy k p w (reports (s + n)) (run (suc n)))) g v
         ∙ ends-tried k p (reports (s + n)) (run (suc n))
 
-    ending-fallen : works (s + n) ≡ alternate k → ending n ≡ going → ending (suc n) ≡ aborted
+    pub ending-fallen : works (s + n) ≡ alternate k → ending n ≡ going → ending (suc n) ≡ aborted
     ending-fallen v g =
         ending-more n
         ∙ ap₂ (λ (e : Ending) (w : Work). orLater e (endsBy k p w (reports (s + n)) (run (suc n)))) g v
         ∙ ends-fallen k p (reports (s + n)) (run (suc n))
 
-    ending-stays : ending n ≢ going → ending (suc n) ≡ ending n
+    pub ending-stays : ending n ≢ going → ending (suc n) ≡ ending n
     ending-stays h = ending-more n ∙ later-first (ending n) (endsBy k p (works (s + n)) (reports (s + n)) (run (suc n))) h
 
   -- idle slots after the n-th change nothing: a window that the history's end cuts off has the lost units of the whole

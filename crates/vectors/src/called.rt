@@ -1,8 +1,10 @@
 // Each kind of case: the entry called on its arguments, and the line printed of its answer.
 ghost use Prim.Native.Nat.{_≤_};
 ghost use lib.ListN.{length};
+ghost use Rattle.vectors.specs.Shares.{Numbers};
 use crate::form;
 use crate::print;
+use bagreport::BagReport;
 use reserve::Handed;
 use slots::Ran;
 use slots::Record;
@@ -193,6 +195,45 @@ fn call_lost_fresh(s: &[u8]) {
     print::number(got.units);
 }
 
+// Gives the first n numbers of the list, and lends the first places of a longer buffer.
+fn lend_marks(
+    t: Table,
+    reports: &[u8],
+    row: u8,
+    spans: &[u64],
+    n: usize,
+    lent: &mut [u8],
+    room: usize,
+) -> BagReport
+    requires { ⌜ (n ≤ length (now spans)) × (room ≤ length (now lent)) ⌝ }
+    ensures { λ r. ⌜ Numbers (r .shares) ⌝ }
+{
+    bagreport::report(t, reports, row, &spans[..n], &mut lent[..room])
+}
+
+fn call_bags(s: &[u8]) {
+    let n = form::numbers(s);
+    let spans = form::spans_of(s, n);
+    let at = form::start(s, 103 + 8 * n);
+    let room = form::room(s, 2);
+    let mut lent = [0u8; 16388];
+    form::fill_bytes(&mut lent, form::byte(s, 1));
+    let got = lend_marks(
+        form::table_of(s),
+        &s[at..],
+        form::byte(s, 101),
+        &spans,
+        n,
+        &mut lent,
+        room,
+    );
+    let f = got.refusal;
+    let shares = got.shares;
+    print::head(b"bags", f);
+    print::shares(shares);
+    print::bytes(&lent, room + 4);
+}
+
 fn call_none(kind: u8) {
     print::text(b"unknown");
     print::number(kind as u64);
@@ -217,6 +258,7 @@ pub(crate) fn answer(s: &[u8]) {
         13 => call_run(s),
         14 => call_lost(s),
         15 => call_lost_fresh(s),
+        16 => call_bags(s),
         _ => call_none(kind),
     }
     print::end();

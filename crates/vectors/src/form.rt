@@ -21,6 +21,17 @@ pub(crate) fn word(s: &[u8], at: usize) -> u16
     high as u16 * 256 + low as u16
 }
 
+// Eight bytes, the high one first.
+fn long(s: &[u8], at: usize) -> u64
+    requires { ⌜ at < 900 ⌝ }
+{
+    let a = word(s, at) as u64;
+    let b = word(s, at + 2) as u64;
+    let c = word(s, at + 4) as u64;
+    let d = word(s, at + 6) as u64;
+    ((a * 65536 + b) * 65536 + c) * 65536 + d
+}
+
 // How many places are lent, by the number at a place.
 pub(crate) fn room(s: &[u8], at: usize) -> usize
     requires { ⌜ at < 1000 ⌝ }
@@ -120,6 +131,27 @@ pub(crate) fn lefts_of(q: Record) -> [u16; 16] {
         i += 1;
     }
     left
+}
+
+// How many numbers the list of spans has, by the byte at 102.
+pub(crate) fn numbers(s: &[u8]) -> usize
+    ensures { λ r. ⌜ r ≤ 64 ⌝ }
+{
+    let n = byte(s, 102) as usize;
+    if 64 < n { 64 } else { n }
+}
+
+// The first n numbers of the list of spans, which stands at place 103.
+pub(crate) fn spans_of(s: &[u8], n: usize) -> [u64; 64]
+    requires { ⌜ n ≤ 64 ⌝ }
+{
+    let mut spans = [0u64; 64];
+    let mut i: usize = 0;
+    while i < n {
+        spans[i] = long(s, 103 + 8 * i);
+        i += 1;
+    }
+    spans
 }
 
 // What lent byte i holds before the call: (fill + i) mod 256.

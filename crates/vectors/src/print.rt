@@ -1,8 +1,10 @@
 // The text of the answers.
 ghost use Prim.Native.Nat.{_≤_};
 ghost use lib.ListN.{length};
+ghost use Rattle.vectors.specs.Shares.{Number, Numbers};
 use libc::STDOUT_FILENO;
 use refusal::Refusal;
+use share::Share;
 use slots::Job;
 use slots::Record;
 use slots::State;
@@ -95,6 +97,31 @@ pub(crate) fn entries(q: Record) {
     while i < 16 {
         let j = q.jobs[i];
         entry(j);
+        i += 1;
+    }
+}
+
+// A field 'mark/done/of/BITS': the share itself by its 64 bits.
+fn share_field(s: Share)
+    requires { ⌜ Number s ⌝ }
+{
+    number(s.mark as u64);
+    text(b"/");
+    io::print_decimal(STDOUT_FILENO, s.done as u64);
+    text(b"/");
+    io::print_decimal(STDOUT_FILENO, s.of as u64);
+    text(b"/");
+    io::print_hex(STDOUT_FILENO, f64::to_bits(s.share), 16);
+}
+
+// A field for each of the sixteen shares.
+pub(crate) fn shares(shares: [Share; 16])
+    requires { ⌜ Numbers shares ⌝ }
+{
+    let mut i: usize = 0;
+    while i < 16 {
+        let s = shares[i];
+        share_field(s);
         i += 1;
     }
 }

@@ -1,0 +1,4 @@
+pub mod JobWindows
+pub mod Due
+pub mod JobKinds
+pub mod Meaning

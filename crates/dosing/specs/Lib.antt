@@ -1,0 +1,4 @@
+pub mod Jobs
+pub mod Bags
+pub mod Turns
+pub mod Meaning
