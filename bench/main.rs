@@ -1,6 +1,11 @@
 //! Times the library's run of lists of reports beside the plain Rust run of the second program and beside the
-//! library's single slots, after holding them to each other. `bench/run` builds it and starts it.
+//! library's single slots, and its bag report beside two runs, after holding them to each other. `bench/run` builds it
+//! and starts it.
 
+mod bagged;
+#[path = "../second/bags.rs"]
+#[allow(dead_code)]
+mod bags;
 #[path = "../second/file.rs"]
 #[allow(dead_code)]
 mod file;
@@ -33,6 +38,9 @@ use std::time::Instant;
 /// Each time is the best of so many; the sides take turns, so that what slows the machine down meets all of them.
 const ROUNDS: usize = 9;
 
+/// How much over the runs' bar the bag report's ratio may be: it reads each slot's log byte and report once more.
+const TELLING: f64 = 0.5;
+
 /// What lent memory holds before a run: no row's number and no log byte.
 const BEFORE: u8 = 238;
 
@@ -54,25 +62,34 @@ struct Times {
     rust: f64,
     single: f64,
     entry: f64,
+    report: f64,
+}
+
+/// What is printed of a list.
+struct Line<'a> {
+    task: &'a Task,
+    reports: Reports,
+    slots: usize,
+    times: Times,
 }
 
 fn main() {
-    println!(
-        "nanoseconds for a slot, the best of {} rounds; entry: the part of the library's time before its first slot",
-        ROUNDS
-    );
-    println!(
-        "{:<16}{:<13}{:>9}{:>10}{:>9}{:>12}{:>8}{:>14}{:>8}   bar",
-        "table", "reports", "slots", "library", "entry", "plain Rust", "ratio", "single slots", "times"
-    );
+    print_runs_head();
+    let tasks = lists::tasks();
+    let mut lines = Vec::new();
     let mut all_within = true;
-    for task in lists::tasks() {
-        for (reports, slots) in LISTS.iter().zip(task.slots) {
-            let case = case(&task, *reports, slots);
-            hold_together(&case).unwrap_or_else(|trouble| stop(&task, *reports, &trouble));
-            let times = measure(&case);
-            all_within &= print(&task, *reports, slots, &times);
+    for task in &tasks {
+        for (reports, slots) in LISTS.into_iter().zip(task.slots) {
+            let case = case(task, reports, slots);
+            hold_together(&case).unwrap_or_else(|trouble| stop(task, reports, &trouble));
+            let line = Line { task, reports, slots, times: measure(&case) };
+            all_within &= print_runs(&line);
+            lines.push(line);
         }
+    }
+    print_report_head();
+    for line in &lines {
+        all_within &= print_report(line);
     }
     process::exit(if all_within { 0 } else { 1 });
 }
@@ -94,8 +111,8 @@ fn case(task: &Task, reports: Reports, slots: usize) -> Case {
     }
 }
 
-/// The two runs leave the same slots, logs, buffers and records, and single slots the same log. It also warms the sides
-/// up.
+/// The two runs leave the same slots, logs, buffers and records, single slots the same log, and the bag report tells of
+/// it. It also warms the sides up.
 fn hold_together(case: &Case) -> Result<(), String> {
     let slots = case.reports.len();
     let (mut log, mut buffer) = lent(case);
@@ -111,7 +128,9 @@ fn hold_together(case: &Case) -> Result<(), String> {
     let mut single_log = vec![BEFORE; case.single_slots];
     let first = &case.reports[..case.single_slots];
     same("slots of single slots", &library::steps(&case.file, first, &mut single_log), &case.single_slots)?;
-    same("log of single slots", &single_log[..], &log[..case.single_slots])
+    same("log of single slots", &single_log[..], &log[..case.single_slots])?;
+    bagged::hold_to_second(&case.table, &case.file, first)?;
+    bagged::hold_to_log(&case.table, &case.file, &case.reports, &rust_log)
 }
 
 /// The lent log and the lent buffer before a run.
@@ -131,7 +150,8 @@ fn measure(case: &Case) -> Times {
     let slots = case.reports.len();
     let first = &case.reports[..case.single_slots];
     let (mut log, mut buffer) = lent(case);
-    let mut times = Times { library: f64::MAX, rust: f64::MAX, single: f64::MAX, entry: f64::MAX };
+    let mut marks = bagged::marks();
+    let mut times = Times { library: f64::MAX, rust: f64::MAX, single: f64::MAX, entry: f64::MAX, report: f64::MAX };
     for _ in 0..ROUNDS {
         let library = time(slots, || library::run(&case.file, &case.reports, &mut log, &mut buffer));
         times.library = times.library.min(library);
@@ -141,6 +161,8 @@ fn measure(case: &Case) -> Times {
         times.single = times.single.min(single);
         let entry = time(0, || library::run(&case.file, &[], &mut log, &mut buffer));
         times.entry = times.entry.min(entry);
+        let report = time(slots, || bagged::report(&case.file, &case.reports, &mut marks));
+        times.report = times.report.min(report);
     }
     times
 }
@@ -154,8 +176,20 @@ fn time(slots: usize, run: impl FnOnce() -> usize) -> f64 {
     taken.as_nanos() as f64 / slots.max(1) as f64
 }
 
-/// Prints a line, and answers whether its figures are within their bar.
-fn print(task: &Task, reports: Reports, slots: usize, times: &Times) -> bool {
+fn print_runs_head() {
+    println!(
+        "nanoseconds for a slot, the best of {} rounds; entry: the part of the library's time before its first slot",
+        ROUNDS
+    );
+    println!(
+        "{:<16}{:<13}{:>9}{:>10}{:>9}{:>12}{:>8}{:>14}{:>8}   bar",
+        "table", "reports", "slots", "library", "entry", "plain Rust", "ratio", "single slots", "times"
+    );
+}
+
+/// Prints a line of the runs, and answers whether its figures are within their bar.
+fn print_runs(line: &Line) -> bool {
+    let (task, times) = (line.task, &line.times);
     let ratio = times.library / times.rust;
     let faster = times.single / times.library;
     let within = ratio < task.under && task.least.map_or(true, |least| faster >= least);
@@ -163,17 +197,59 @@ fn print(task: &Task, reports: Reports, slots: usize, times: &Times) -> bool {
     println!(
         "{:<16}{:<13}{:>9}{:>10.1}{:>8.2}%{:>12.1}{:>8.2}{:>14.0}{:>8.0}   {}: ratio under {:.1}{}",
         task.name,
-        reports.name(),
-        slots,
+        line.reports.name(),
+        line.slots,
         times.library,
-        100.0 * times.entry / (times.library * slots as f64),
+        100.0 * times.entry / (times.library * line.slots as f64),
         times.rust,
         ratio,
         times.single,
         faster,
-        if within { "within" } else { "NOT within" },
+        said(within),
         task.under,
         least
     );
     within
+}
+
+fn print_report_head() {
+    println!(
+        "\nbag report: {} bags of row {}, beside two of the runs above, for it runs a list twice",
+        bagged::BAGS,
+        bagged::ROW
+    );
+    println!(
+        "{:<16}{:<13}{:>9}{:>12}{:>14}{:>8}{:>17}{:>8}   bar",
+        "table", "reports", "slots", "bag report", "library twice", "ratio", "plain Rust twice", "ratio"
+    );
+}
+
+/// Prints a line of the bag report, and answers whether it is within the bar of two runs of plain Rust.
+fn print_report(line: &Line) -> bool {
+    let (task, times) = (line.task, &line.times);
+    let ratio = times.report / (2.0 * times.rust);
+    let under = task.under + TELLING;
+    let within = ratio < under;
+    println!(
+        "{:<16}{:<13}{:>9}{:>12.1}{:>14.1}{:>8.2}{:>17.1}{:>8.2}   {}: ratio under {:.1}",
+        task.name,
+        line.reports.name(),
+        line.slots,
+        times.report,
+        2.0 * times.library,
+        times.report / (2.0 * times.library),
+        2.0 * times.rust,
+        ratio,
+        said(within),
+        under
+    );
+    within
+}
+
+fn said(within: bool) -> &'static str {
+    if within {
+        "within"
+    } else {
+        "NOT within"
+    }
 }

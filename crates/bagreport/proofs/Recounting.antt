@@ -27,6 +27,8 @@ use Rattle.bagreport.specs.declared.pass.Tale.{Tale}
 use Rattle.bagreport.specs.Answers.{worksOf}
 use Rattle.bagreport.specs.Turns.{noOpen, Told, Logged, noCounts, countsTo, Counted, Countable, ClosedAt, Ordered, Past, kindOf, Remarked, Bagged, Beyond, TaleAt}
 use Rattle.bagreport.proofs.NearestEnd.{row-period}
+use Rattle.bagreport.proofs.SlotsTold.{Along, along-start, along-end}
+use Rattle.bagreport.proofs.Closing.{Closing, closing-start, closing-end}
 use Rattle.bagreport.proofs.StretchTold.{told-after, counted-after, ended-code}
 use Rattle.bagreport.proofs.BagsMarked.{bagged-after, beyond-after}
 
@@ -123,9 +125,24 @@ module _ {t : Table} {reps log : List ℕ} {base n place : ℕ} {spans old : Lis
     pub recounting-countable : Countable (base + stop) cs
     recounting-countable = countable t reps (base + i) cs (g .counts) (base + stop) (omega arith) recounting-stop
 
+    -- its slots, before the first of them
+    pub recounting-along : Along t reps log base i stop os i
+    recounting-along = along-start (g .opens) (omega arith) recounting-logged (g .few)
+
+    -- its end, where the slots have been told
+    module _ {after : List Open} {j : ℕ} (along : Along t reps log base i stop after j) where
+      pub recounting-closing : Closing t (base + stop) after cs after cs 0
+      recounting-closing = closing-start t (base + stop) after cs (g .accepted) recounting-countable (g .sixteen) (along .told .sixteen) (g .counts .sixteen)
+
     -- and one stretch more is told
     module _ {gap : ℕ} (near : (k : ℕ) → k < length (used t) → base + i + gap ≤ windowEnd (rowAt (used t) k) (base + i)) (few : stop - i ≤ gap)
-        {after : List Open} (told : Told t reps (base + i) (base + stop) after) where
+        {after : List Open} {j : ℕ} (along : Along t reps log base i stop after j) (ended : stop ≤ j) where
+      told : Told t reps (base + i) (base + stop) after
+      told = along-end along ended
+
+      is-stop : stop ≡ j
+      is-stop = omega (arith, along .within)
+
       later : base + i < base + stop
       later = omega arith
 
@@ -138,7 +155,10 @@ module _ {t : Table} {reps log : List ℕ} {base n place : ℕ} {spans old : Lis
       module _ {bag' : ℕ} (found : Past spans bag' (base + stop)) {marks' : List ℕ}
           (marked : (starts (getD (t .rows) place blank) (base + stop) ≡ true → Remarked spans (base + stop) (kindOf (getD after place noOpen .ended)) marks marks')
           × (starts (getD (t .rows) place blank) (base + stop) ≡ false → marks' ≡ marks))
-          {os' : List Open} {cs' : List Counts} (closed : ClosedAt t (base + stop) after cs os' cs') where
+          {os' : List Open} {cs' : List Counts} {k : ℕ} (closing : Closing t (base + stop) after cs os' cs' k) (all : t .n ≤ k) where
+        closed : ClosedAt t (base + stop) after cs os' cs'
+        closed = closing-end closing all
+
         starts-same : starts (getD (t .rows) place blank) (base + stop) ≡ starts (rowAt (used t) place) (base + stop)
         starts-same = ap (λ (r : Row). starts r (base + stop)) is-read
 
@@ -148,8 +168,8 @@ module _ {t : Table} {reps log : List ℕ} {base n place : ℕ} {spans old : Lis
         inside : starts (rowAt (used t) place) (base + stop) ≡ false → marks' ≡ marks
         inside h = marked .1 (starts-same ∙ h)
 
-        pub recounting-step : Recounting t reps log base n place spans old os' cs' bag' stop marks'
-        recounting-step = record {
+        stepped : Recounting t reps log base n place spans old os' cs' bag' stop marks'
+        stepped = record {
           accepted = g .accepted;
           logged = g .logged;
           few = g .few;
@@ -168,6 +188,9 @@ module _ {t : Table} {reps log : List ℕ} {base n place : ℕ} {spans old : Lis
               (ended-code t reps (base + i) (base + stop) later long close after os' cs cs' told closed place (g .is-row)) marks marks' (g .bagged) on-end inside in
               record { size = b .size ∙ g .beyond .size; stay = λ c l. b .stay c l ∙ g .beyond .stay c l };
         }
+
+        pub recounting-step : Recounting t reps log base n place spans old os' cs' bag' j marks'
+        recounting-step = subst (λ (x : ℕ). Recounting t reps log base n place spans old os' cs' bag' x marks') is-stop stepped
 
   pub recounting-tale : n ≤ i → TaleAt t reps spans (base + n) (record { opens = os; counts = cs; bag = bag })
   recounting-tale l =

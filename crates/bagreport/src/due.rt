@@ -8,7 +8,7 @@ ghost use Rattle.refusal.specs.declared.Refusal.the-variants.{None};
 ghost use Rattle.table.specs.Rows.{used, rowAt};
 ghost use Rattle.table.specs.Windows.{starts, windowEnd};
 ghost use Rattle.reserve.specs.Check.{tableRefusal};
-ghost use Rattle.bagreport.specs.Turns.{noOpen, countedBy, Countable, ClosedAt};
+ghost use Rattle.bagreport.specs.Turns.{noOpen, countedBy};
 use crate::told::Open;
 use table::Row;
 use table::Table;
@@ -18,12 +18,6 @@ pub(crate) struct Counts {
     pub all: usize,
     pub done: usize,
     pub fell: usize,
-}
-
-// What the end of a stretch leaves.
-pub(crate) struct Closed {
-    pub opens: [Open; 16],
-    pub counts: [Counts; 16],
 }
 
 // Whether one of the row's windows starts at slot s, and so one ends before it.
@@ -62,14 +56,14 @@ pub(crate) fn to_nearest_end(t: Table, s: usize) -> u16
 }
 
 // One where the codes are the same.
-fn one_if(ended: u8, code: u8) -> usize
+fn one_if(ended: usize, code: usize) -> usize
     ensures { λ r. ⌜ r ≡ cond (eqb ended code) 1 0 ⌝ }
 {
     if ended == code { 1 } else { 0 }
 }
 
 // The counts with one more job, whose primary has ended so.
-fn counted(c: Counts, ended: u8) -> Counts
+fn counted(c: Counts, ended: usize) -> Counts
     requires { ⌜ (c .all + 1 < 2 ^ 64) × (c .done + 1 < 2 ^ 64) × (c .fell + 1 < 2 ^ 64) ⌝ }
     ensures { λ r. ⌜ r ≡ countedBy ended c ⌝ }
 {
@@ -81,7 +75,7 @@ fn counted(c: Counts, ended: u8) -> Counts
 }
 
 // The counts at slot s, which a window may end before.
-fn counts_at(r: Row, s: usize, o: Open, c: Counts) -> Counts
+pub(crate) fn counts_at(r: Row, s: usize, o: Open, c: Counts) -> Counts
     requires { ⌜ (0 < r .period) × (c .all + 1 < 2 ^ 64) × (c .done + 1 < 2 ^ 64) × (c .fell + 1 < 2 ^ 64) ⌝ }
     ensures { λ k. ⌜ k ≡ cond (starts r s) (countedBy (o .ended) c) c ⌝ }
 {
@@ -93,7 +87,7 @@ fn counts_at(r: Row, s: usize, o: Open, c: Counts) -> Counts
 }
 
 // The open job at slot s, at which a new window may start.
-fn open_at(r: Row, s: usize, o: Open) -> Open
+pub(crate) fn open_at(r: Row, s: usize, o: Open) -> Open
     requires { ⌜ 0 < r .period ⌝ }
     ensures { λ k. ⌜ k ≡ cond (starts r s) noOpen o ⌝ }
 {
@@ -101,28 +95,5 @@ fn open_at(r: Row, s: usize, o: Open) -> Open
         Open { units: 0, ended: 0 }
     } else {
         o
-    }
-}
-
-// Counts the jobs whose windows end before slot s, and opens the next ones.
-pub(crate) fn close_rows(t: Table, s: usize, opens: [Open; 16], counts: [Counts; 16]) -> Closed
-    requires { ⌜ (tableRefusal t ≡ None) × Countable s counts ⌝ }
-    ensures { λ r. ⌜ ClosedAt t s opens counts (r .opens) (r .counts) ⌝ }
-{
-    let n = t.n;
-    let mut os = opens;
-    let mut cs = counts;
-    let mut i: u8 = 0;
-    while i < n {
-        let at = i as usize;
-        let c = counts_at(t.rows[at], s, os[at], cs[at]);
-        let o = open_at(t.rows[at], s, os[at]);
-        cs[at] = c;
-        os[at] = o;
-        i += 1;
-    }
-    Closed {
-        opens: os,
-        counts: cs,
     }
 }

@@ -63,7 +63,8 @@ fn chunk(left: usize) -> usize
     if left < 262144 { left } else { 262144 }
 }
 
-// Tells of n slots more, of which the log has the bytes. A stretch of them ends where a window does.
+// Tells of n slots more, of which the log has the bytes. A stretch of them ends where a window does: there jobs are counted, and the next ones open. One function, since arrays that are
+// handed over at each stretch cost more than its slots.
 fn tell(
     before: Tale,
     t: Table,
@@ -87,15 +88,24 @@ fn tell(
     while i < n {
         let gap = due::to_nearest_end(t, base + i);
         let stop = stretch(i, n, gap);
-        let after = told::told_slots(t, opens, reports, log, base, i, stop);
+        while i < stop {
+            let ran = log[i];
+            let at = told::place_of(ran);
+            let o = told::told(t.rows[at], opens[at], ran, reports[base + i]);
+            opens[at] = o;
+            i += 1;
+        }
         let s = base + stop;
-        bag = marks::mark_job(t.rows[place], s, after[place], spans, marks, bag);
-        let closed = due::close_rows(t, s, after, counts);
-        let os = closed.opens;
-        let cs = closed.counts;
-        opens = os;
-        counts = cs;
-        i = stop;
+        bag = marks::mark_job(t.rows[place], s, opens[place], spans, marks, bag);
+        let mut k: u8 = 0;
+        while k < t.n {
+            let at = k as usize;
+            let c = due::counts_at(t.rows[at], s, opens[at], counts[at]);
+            let o = due::open_at(t.rows[at], s, opens[at]);
+            counts[at] = c;
+            opens[at] = o;
+            k += 1;
+        }
     }
     Tale { opens, counts, bag }
 }

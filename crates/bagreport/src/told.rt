@@ -1,30 +1,28 @@
-// One row's open job along a log: its primary units so far, and how its primary has ended.
+// One row's open job, slot by slot: its primary units so far, and how its primary has ended.
 ghost use mathlib.Core.Path.{_≡_};
 ghost use mathlib.Core.Bool.{cond};
-ghost use Prim.Native.Nat.{_+_, _%_, _^_, _≤_, _<_};
+ghost use Prim.Native.Nat.{_+_, _%_, _^_, _<_};
 ghost use lib.Dec.{eqb};
-ghost use lib.ListN.{length};
 ghost use Rattle.slots.specs.History.{workOf};
 ghost use Rattle.slots.specs.LostUnits.{byReport};
-ghost use Rattle.bagreport.specs.Turns.{codeOf, toldBy, Told, Logged};
+ghost use Rattle.bagreport.specs.Turns.{codeOf, toldBy};
 use table::Row;
-use table::Table;
 
 // A row's job whose deadline has not come: 0 its primary goes on, 1 it was reported done, 2 it was reported failed or overran, 3 it was aborted.
 pub(crate) struct Open {
     pub units: usize,
-    pub ended: u8,
+    pub ended: usize,
 }
 
 // The place of the row whose unit a log's byte tells of. An idle slot tells of none, and any place does.
-fn place_of(ran: u8) -> usize
+pub(crate) fn place_of(ran: u8) -> usize
     ensures { λ r. ⌜ (r ≡ (ran + 15) % 16) × (r < 16) ⌝ }
 {
     (ran as usize + 15) % 16
 }
 
 // How a primary's unit, the u-th of p, ends it by its report.
-fn by_report(report: u8, p: u16, u: usize) -> u8
+fn by_report(report: u8, p: u16, u: usize) -> usize
     ensures { λ r. ⌜ r ≡ codeOf (byReport report p u) ⌝ }
 {
     match report {
@@ -35,14 +33,14 @@ fn by_report(report: u8, p: u16, u: usize) -> u8
 }
 
 // The first ending stands.
-fn first_of(ended: u8, later: u8) -> u8
+fn first_of(ended: usize, later: usize) -> usize
     ensures { λ r. ⌜ r ≡ cond (eqb ended 0) later ended ⌝ }
 {
     if ended == 0 { later } else { ended }
 }
 
 // The open job of the byte's row, after its slot.
-fn told(r: Row, o: Open, ran: u8, report: u8) -> Open
+pub(crate) fn told(r: Row, o: Open, ran: u8, report: u8) -> Open
     requires { ⌜ o .units + 1 < 2 ^ 64 ⌝ }
     ensures { λ k. ⌜ k ≡ toldBy (workOf ran) report r o ⌝ }
 {
@@ -58,29 +56,4 @@ fn told(r: Row, o: Open, ran: u8, report: u8) -> Open
         units: o.units,
         ended: first_of(o.ended, 3),
     }
-}
-
-// The open jobs after the slots of a log from one up to, not including, another. The log's first byte is of the slot `base`.
-pub(crate) fn told_slots(
-    t: Table,
-    before: [Open; 16],
-    reports: &[u8],
-    log: &[u8],
-    base: usize,
-    from: usize,
-    to: usize,
-) -> [Open; 16]
-    requires { ⌜ Told t (now reports) (base + from) (base + from) before × (from ≤ to) × Logged t (now reports) base to (now log) ⌝ }
-    ensures { λ r. ⌜ Told t (now (reports .entry)) (base + from) (base + to) r ⌝ }
-{
-    let mut opens = before;
-    let mut i = from;
-    while i < to {
-        let ran = log[i];
-        let at = place_of(ran);
-        let o = told(t.rows[at], opens[at], ran, reports[base + i]);
-        opens[at] = o;
-        i += 1;
-    }
-    opens
 }

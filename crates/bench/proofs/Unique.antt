@@ -3,6 +3,8 @@
 use mathlib.Core.Path.{sym, _∙_}
 use denote.Ref.{now}
 use Rattle.refusal.proofs.Settles.{SettlesLent}
+use Rattle.bench.proofs.bench_bags.Kinds as bags-kinds
+use Rattle.bench.proofs.bench_bags.Reads as bags
 use Rattle.bench.proofs.bench_run.Kinds as run-kinds
 use Rattle.bench.proofs.bench_run.Reads as run
 use Rattle.bench.proofs.bench_steps.Kinds as steps-kinds
@@ -17,3 +19,7 @@ run-buffer-unique κs a x y s t p q = (p .0 ∙ sym (q .0), p .1 .1 ∙ sym (q .
 
 pub steps-unique : SettlesLent 3 steps-kinds.ps steps-kinds.r (λ κs s. now (s .1 .1 .0)) steps.Post
 steps-unique κs a x y s t p q = (p .0 ∙ sym (q .0), p .1 ∙ sym (q .1))
+
+-- the lent bytes of the bags are the fifth parameter
+pub bags-unique : SettlesLent 3 bags-kinds.ps bags-kinds.r (λ κs s. now (s .1 .1 .1 .1 .0)) bags.Post
+bags-unique κs a x y s t p q = (p .0 ∙ sym (q .0), p .1 ∙ sym (q .1))

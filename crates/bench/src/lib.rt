@@ -1,12 +1,15 @@
-// What a measurement calls from Rust: a list of reports from a table's fresh start, run at once and by single slots.
+// What a measurement calls from Rust: a list of reports from a table's fresh start, run at once and by single slots, and the bag report on it.
 ghost use mathlib.Core.Path.{_≡_};
 ghost use lib.ListN.{length};
+ghost use Rattle.bench.specs.Bags.{evenReport, evenMarks, bagFigure};
 ghost use Rattle.bench.specs.Lists.{listRan, listLog, listBuffer, singleSlots, singleLog};
 ghost use Rattle.bench.specs.Numbers.{stateNumber, jobNumber, figureOf};
 use refusal::Refusal;
 use slots::Job;
 use slots::Ran;
 use slots::State;
+
+mod bags;
 
 // The run of a list over the table of a file.
 fn run(file: &[u8], reports: &[u8], log: &mut [u8], buffer: &mut [u8]) -> Ran
@@ -102,4 +105,23 @@ pub extern "C" fn bench_steps(file: &[u8], reports: &[u8], log: &mut [u8]) -> us
         }
     }
     i
+}
+
+// The bag report over bags of the same size, one after the other from slot 0, as many as there are lent bytes, at most 1,024. Answers one figure of it: a place's two counts for an
+// i below 16, the refusal's number for any other.
+#[no_mangle]
+pub extern "C" fn bench_bags(
+    file: &[u8],
+    reports: &[u8],
+    row: u8,
+    size: u16,
+    marks: &mut [u8],
+    i: usize,
+) -> u64
+    ensures figure { λ n. ⌜ n ≡ bagFigure (evenReport (now (file .entry)) (now (reports .entry)) row size (now (marks .entry))) i ⌝ }
+    ensures bytes { λ _. ⌜ now (marks .exit) ≡ evenMarks (now (file .entry)) (now (reports .entry)) row size (now (marks .entry)) ⌝ }
+{
+    let read = tablefile::read(file);
+    let got = bags::report_on(read.table, reports, row, size, marks);
+    bags::figure(got, i)
 }
