@@ -28,13 +28,13 @@ use Rattle.slots.specs.History.{logged, reported}
 use Rattle.slots.proofs.SoundRecord.{table-usable}
 use Rattle.slots.proofs.ExactlyWhen.{not-none}
 use Rattle.dosing.specs.Jobs.{byPrimary, byAlternate}
-use Rattle.dosing.specs.Bags.{markOf, bagMark, bagMarks, spansFault}
+use Rattle.dosing.specs.Bags.{markOf, bagMark, bagMarks}
 use Rattle.dosing.specs.Meaning.{LooksAt, NoneBag, ModelledBag, FixedBag, MixedBag}
 use Rattle.dosing.proofs.JobWindows.{closes-zero}
 use Rattle.dosing.proofs.Due.{due-past}
 use Rattle.dosing.proofs.JobKinds.{FromFresh, run-from-fresh}
 use Rattle.dosing.proofs.Meaning.{marked-none, marked-modelled, marked-fixed, marked-mixed}
-use Rattle.bagreport.specs.Pairs.{bags, startAt, endAt}
+use Rattle.bagreport.specs.Pairs.{bags, startAt, endAt, spansFault}
 use Rattle.bagreport.specs.Answers.{roomRefusal, deskRefusal, bagRefusal, worksOf, sixteenShares, noShare, reportOf, marksAfter}
 use Rattle.bagreport.proofs.SpanOrder.{desk-none, fault-within, marks-length, marks-at}
 
@@ -91,6 +91,11 @@ pub mark-of-four : (rs : List Row) (works : ℕ → Work) (reports : ℕ → ℕ
 unfolding bagMark
 mark-of-four rs works reports k start end = mark-few _ _
 
+-- a refusal writes nothing
+stays : (f : Refusal) (new old : List ℕ) → (f ≡ None → ⊥) → overlaid f new old ≡ old
+unfolding overlaid
+stays f new old h = rw (not-none f h) refl
+
 -- the fresh record of an accepted table
 pub fresh-is : (t : Table) → tableRefusal t ≡ None → freshRecord t ≡ freshOf (used t)
 unfolding freshRecord
@@ -105,8 +110,8 @@ module _ (t : Table) (reps : List ℕ) (row : ℕ) (spans old : List ℕ) where
 
   -- ---- refused: nothing is written, and every figure is 0
   pub refused-bytes : (bagRefusal t reps row spans old ≡ None → ⊥) → marksAfter t reps row spans old ≡ old
-  unfolding marksAfter overlaid
-  refused-bytes h = rw (not-none gave h) refl
+  unfolding marksAfter
+  refused-bytes h = search (stays)
 
   pub refused-shares : (bagRefusal t reps row spans old ≡ None → ⊥) → reportOf t reps row spans old .shares ≡ replicate 16 noShare
   unfolding reportOf

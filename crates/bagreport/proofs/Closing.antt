@@ -21,8 +21,24 @@ use Rattle.reserve.proofs.Verdict.{table-accepted}
 use Rattle.slots.proofs.EntryLoops.{row-used}
 use Rattle.bagreport.specs.declared.told.Open.{Open}
 use Rattle.bagreport.specs.declared.due.Counts.{Counts}
-use Rattle.bagreport.specs.Turns.{noOpen, noCounts, countedBy, Countable, ClosedAt}
+use Rattle.bagreport.specs.Turns.{noOpen, noCounts, countedBy}
 use Rattle.bagreport.proofs.NearestEnd.{row-period}
+
+-- no count is over the slots that have passed
+pub record Countable (at : ℕ) (cs : List Counts) : Type 0 where
+  pub few : at < 2 ^ 64
+  pub all : (k : ℕ) → getD cs k noCounts .all < at
+  pub done : (k : ℕ) → getD cs k noCounts .done < at
+  pub fell : (k : ℕ) → getD cs k noCounts .fell < at
+
+-- what a slot at which windows may start leaves of the open jobs and the counts
+pub record ClosedAt (t : Table) (s : ℕ) (os : List Open) (cs : List Counts) (os' : List Open) (cs' : List Counts) : Type 0 where
+  pub size : length os' ≡ length os
+  pub sizes : length cs' ≡ length cs
+  pub opens : (k : ℕ) → k < length (used t) → getD os' k noOpen ≡ cond (starts (rowAt (used t) k) s) noOpen (getD os k noOpen)
+  pub rest : (k : ℕ) → length (used t) ≤ k → getD os' k noOpen ≡ getD os k noOpen
+  pub counts : (k : ℕ) → k < length (used t) → getD cs' k noCounts ≡ cond (starts (rowAt (used t) k) s) (countedBy (getD os k noOpen .ended) (getD cs k noCounts)) (getD cs k noCounts)
+  pub past : (k : ℕ) → length (used t) ≤ k → getD cs' k noCounts ≡ getD cs k noCounts
 
 -- ---- one row
 pub rest-starts : (r : Row) (s : ℕ) → eqb (s % r .period) 0 ≡ starts r s

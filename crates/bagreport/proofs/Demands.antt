@@ -111,19 +111,19 @@ module _ (c : ReportCall) where
       ran : endAt spans b ≤ length reps
       ran = answered.bag-ends t reps row spans old none b bag
 
-      -- 'no job none (0)'
+      -- "no job 'none' (0)"
       pub byte-none : (bagByte c b ≡ 0) ↔ OfBag c b NoneBag
       byte-none = rw byte-is (answered.mark-none history (dosing c) (startAt spans b) (endAt spans b) ran)
 
-      -- 'all by primary is modelled (1)'
+      -- "all by primary is 'modelled' (1)"
       pub byte-modelled : (bagByte c b ≡ 1) ↔ OfBag c b ModelledBag
       byte-modelled = rw byte-is (answered.mark-modelled history (dosing c) (startAt spans b) (endAt spans b) ran)
 
-      -- 'all by alternate fixed (2)'
+      -- "all by alternate 'fixed' (2)"
       pub byte-fixed : (bagByte c b ≡ 2) ↔ OfBag c b FixedBag
       byte-fixed = rw byte-is (answered.mark-fixed history (dosing c) (startAt spans b) (endAt spans b) ran)
 
-      -- 'both kinds mixed (3)'
+      -- "both kinds 'mixed' (3)"
       pub byte-mixed : (bagByte c b ≡ 3) ↔ OfBag c b MixedBag
       byte-mixed = rw byte-is (answered.mark-mixed history (dosing c) (startAt spans b) (endAt spans b) ran)
 

@@ -21,8 +21,7 @@ use Rattle.slots.specs.Records.{freshRecord}
 use Rattle.slots.specs.Exactly.{Then, ListStops}
 use Rattle.slots.proofs.ExactlyWhen.{chain}
 use Rattle.slots.proofs.ListsWhen.{stop-gives}
-use Rattle.dosing.specs.Bags.{spansFault}
-use Rattle.bagreport.specs.Pairs.{bags, startAt}
+use Rattle.bagreport.specs.Pairs.{bags, startAt, spansFault}
 use Rattle.bagreport.specs.Answers.{roomRefusal, deskRefusal, bagRefusal}
 use Rattle.bagreport.specs.Exactly.{Where, FewBytes, OutsideTable, BadSpans, BagGives, odd, backward, beyond, overlaps, many}
 use Rattle.bagreport.proofs.SpanOrder.{next-start, next-end, fault-even, fault-ordered, fault-within}

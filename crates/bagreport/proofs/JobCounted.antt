@@ -10,11 +10,10 @@ use Rattle.rule.specs.Slots.{unit}
 use Rattle.slots.specs.Records.{newJob}
 use Rattle.slots.specs.OneSlot.{Work}
 use Rattle.slots.specs.History.{primaries}
-use Rattle.slots.specs.LostUnits.{Ending, going, past, done, failed, overran, aborted, endedAt, endingOf}
+use Rattle.slots.specs.LostUnits.{Ending, going, past, done, failed, overran, aborted, endingOf}
 use Rattle.slots.proofs.JobStory.{primaries-none}
 use Rattle.dosing.specs.Jobs.{byPrimary, byAlternate, fell}
 use Rattle.dosing.specs.Bags.{markOf}
-use Rattle.bagreport.specs.declared.told.Open.{Open}
 use Rattle.bagreport.specs.Turns.{codeOf, noOpen, openFrom, kindOf, joinedMark}
 
 -- ---- by its ending

@@ -89,8 +89,8 @@ module _ (mark kind : ℕ) where
   pub joined-same : (mark ≡ 0 → ⊥) → mark ≡ kind → mark ≡ joinedMark mark kind
   joined-same h e = simp (ne-eqb mark 0 h, eq-eqb mark kind e)
 
-  pub joined-both : (mark ≡ 0 → ⊥) → (mark ≡ kind → ⊥) → 3 ≡ joinedMark mark kind
-  joined-both h k = rw (ne-eqb mark 0 h, ne-eqb mark kind k)
+  pub joined-both : (mark ≡ 0 → ⊥) → (mark ≡ kind → ⊥) → (r : ℕ) → r ≡ 3 → r ≡ joinedMark mark kind
+  joined-both h k r e = e ∙ rw (ne-eqb mark 0 h, ne-eqb mark kind k)
 
 -- ---- the job goes to the bag that looks at it, if one does
 module _ {spans : List ℕ} {s bag : ℕ} (g : Sought spans s bag) where

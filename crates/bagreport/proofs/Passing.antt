@@ -13,15 +13,13 @@ use Rattle.refusal.proofs.Order.{Told, refused}
 use Rattle.table.specs.declared.Row.{Row}
 use Rattle.table.specs.declared.Table.{Table}
 use Rattle.table.specs.Rows.{used, rowAt}
-use Rattle.rule.specs.Slots.{count}
 use Rattle.rule.proofs.Tests.{never}
 use Rattle.reserve.specs.Check.{tableRefusal}
 use Rattle.slots.specs.declared.Record.{Record}
-use Rattle.slots.specs.Records.{newJob, freshRecord}
+use Rattle.slots.specs.Records.{freshRecord}
 use Rattle.slots.specs.OneSlot.{Work}
 use Rattle.slots.specs.Reports.{Outcome, runOf}
-use Rattle.slots.specs.History.{reported, primaries}
-use Rattle.slots.specs.LostUnits.{endingOf}
+use Rattle.slots.specs.History.{reported}
 use Rattle.slots.proofs.RunFacts.{run-none}
 use Rattle.dosing.specs.Jobs.{any, byPrimary, byAlternate, fell}
 use Rattle.dosing.specs.Bags.{markOf, bagMark}
@@ -33,6 +31,7 @@ use Rattle.bagreport.specs.Answers.{worksOf}
 use Rattle.bagreport.specs.declared.told.Open.{Open}
 use Rattle.bagreport.specs.Pairs.{bags, startAt, endAt}
 use Rattle.bagreport.specs.Turns.{noOpen, openFrom, noCounts, countsTo, Counted, Ordered, Past, Bagged, Beyond, RunTo, noTale, TaleAt}
+use Rattle.bagreport.proofs.JobCounted.{open-new}
 
 -- ---- the reports
 pub run-start : {t : Table} (reps : List ℕ) → tableRefusal t ≡ None → RunTo t reps 0 (freshRecord t)
@@ -57,8 +56,7 @@ all-same (suc n) (suc i) a = all-same n i a
 
 -- before slot 0 there is none
 open-none : (works : ℕ → Work) (reports : ℕ → ℕ) (k : ℕ) (r : Row) (s : ℕ) → s ≡ 0 → noOpen ≡ openFrom works reports k r s 0
-unfolding openFrom primaries count endingOf newJob
-open-none works reports k r s z = rw z refl
+open-none works reports k r s z = sym (ap (λ (x : ℕ). openFrom works reports k r x 0) z ∙ open-new works reports k r 0)
 
 start-none : (r : Row) → startOf r 0 ≡ 0
 start-none r = omega (arith, start-le r 0)

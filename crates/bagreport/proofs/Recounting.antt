@@ -1,6 +1,6 @@
 -- A chunk's slots, told stretch by stretch: the loop of `tell`.
 -- Assumes nothing.
-use mathlib.Core.Path.{_≡_, refl, sym, ap, _∙_, subst}
+use mathlib.Core.Path.{_≡_, refl, ap, _∙_, subst}
 use mathlib.Core.Logic.{⊎-elim}
 use mathlib.Core.Bool.{true, false}
 use mathlib.Core.List.{List}
@@ -23,12 +23,11 @@ use Rattle.dosing.specs.Jobs.{any, byPrimary, fell}
 use Rattle.dosing.proofs.Due.{due-few}
 use Rattle.bagreport.specs.declared.told.Open.{Open}
 use Rattle.bagreport.specs.declared.due.Counts.{Counts}
-use Rattle.bagreport.specs.declared.pass.Tale.{Tale}
 use Rattle.bagreport.specs.Answers.{worksOf}
-use Rattle.bagreport.specs.Turns.{noOpen, Told, Logged, noCounts, countsTo, Counted, Countable, ClosedAt, Ordered, Past, kindOf, Remarked, Bagged, Beyond, TaleAt}
+use Rattle.bagreport.specs.Turns.{noOpen, Told, Logged, noCounts, countsTo, Counted, Ordered, Past, kindOf, Remarked, Bagged, Beyond, TaleAt}
 use Rattle.bagreport.proofs.NearestEnd.{row-period}
 use Rattle.bagreport.proofs.SlotsTold.{Along, along-start, along-end}
-use Rattle.bagreport.proofs.Closing.{Closing, closing-start, closing-end}
+use Rattle.bagreport.proofs.Closing.{Countable, ClosedAt, Closing, closing-start, closing-end}
 use Rattle.bagreport.proofs.StretchTold.{told-after, counted-after, ended-code}
 use Rattle.bagreport.proofs.BagsMarked.{bagged-after, beyond-after}
 

@@ -1,11 +1,9 @@
 -- The report's answer and the lent bytes, for each way it ends.
 -- Assumes nothing.
 use mathlib.Core.Path.{_≡_, refl, sym, ap, _∙_}
-use mathlib.Core.Bool.{Bool, true, false, cond}
-use mathlib.Core.List.{List, [], _∷_, _++_}
-use Prim.Native.Nat.{ℕ, suc, _-_, _/_, _≤_, _<_}
-use native.Mathlib.Omega.{arith}
-use lib.Dec.{ltb}
+use mathlib.Core.Bool.{Bool, cond}
+use mathlib.Core.List.{List, _++_}
+use Prim.Native.Nat.{ℕ, _-_, _/_, _≤_, _<_}
 use borrow.Author.Tests.{lt-ltb, le-ltb}
 use lib.ListN.{length, drop, replicate}
 use Rattle.refusal.specs.declared.Refusal.{Refusal}
@@ -20,7 +18,6 @@ use Rattle.slots.specs.declared.Started.{Started}
 use Rattle.slots.specs.Records.{freshRecord, startedFor}
 use Rattle.slots.specs.Reports.{runOf}
 use Rattle.slots.specs.History.{reported}
-use Rattle.share.specs.declared.Share.{Share}
 use Rattle.dosing.specs.Bags.{bagMarks}
 use Rattle.bagreport.specs.declared.BagReport.{BagReport}
 use Rattle.bagreport.specs.Answers.{roomRefusal, deskRefusal, bagRefusal, worksOf, sixteenShares, noShare, refusedWith, reportOf, marksAfter}

@@ -16,9 +16,9 @@ use Rattle.refusal.proofs.Order.{none-first, none-later, given-not}
 use Rattle.table.specs.declared.Row.{Row}
 use Rattle.rule.proofs.Tests.{side, or-first, or-second}
 use Rattle.slots.specs.OneSlot.{Work}
-use Rattle.dosing.specs.Bags.{bagMark, bagMarks, spansFault}
+use Rattle.dosing.specs.Bags.{bagMark, bagMarks}
 use Rattle.bagreport.specs.Answers.{deskRefusal}
-use Rattle.bagreport.specs.Pairs.{bags, startAt, endAt}
+use Rattle.bagreport.specs.Pairs.{bags, startAt, endAt, spansFault}
 use Rattle.bagreport.specs.Turns.{Ordered}
 
 -- ---- the tests, case by case as the code meets them
@@ -40,8 +40,8 @@ module _ (start end slots previous : ℕ) where
   pub span-beyond : start < end → slots < end → true ≡ badSpan start end slots previous
   span-beyond h k = rw (lt-leb end start h, lt-ltb slots end k)
 
-  pub span-follows : start < end → end ≤ slots → ltb start previous ≡ badSpan start end slots previous
-  span-follows h k = rw (lt-leb end start h, le-ltb slots end k)
+  pub span-follows : start < end → end ≤ slots → (b : Bool) → b ≡ ltb start previous → b ≡ badSpan start end slots previous
+  span-follows h k b e = e ∙ rw (lt-leb end start h, le-ltb slots end k)
 
 -- either of two tests, by the first one's answer
 module _ (a b : Bool) (first : Bool) (e : first ≡ a) where

@@ -1,13 +1,13 @@
 -- A stretch of slots in which no window ends but at its end: what is told, counted and marked after it, where the windows that end there are closed.
 -- Assumes nothing.
-use mathlib.Core.Path.{_≡_, refl, sym, ap, ap₂, _∙_}
+use mathlib.Core.Path.{_≡_, sym, ap, ap₂, _∙_}
 use mathlib.Core.Logic.{⊎-elim}
 use mathlib.Core.Bool.{Bool, true, false, cond, _&&_}
 use mathlib.Core.List.{List}
-use Prim.Native.Nat.{ℕ, _+_, _-_, _≤_, _<_, min}
+use Prim.Native.Nat.{ℕ, _+_, _-_, _≤_, _<_}
 use native.Mathlib.Omega.{arith}
-use lib.Dec.{eqb, ltb}
-use borrow.Author.Tests.{lt-ltb, le-ltb}
+use lib.Dec.{ltb}
+use borrow.Author.Tests.{lt-ltb}
 use lib.ListN.{length, getD}
 use Rattle.table.specs.declared.Row.{Row}
 use Rattle.table.specs.declared.Table.{Table}
@@ -19,17 +19,16 @@ use Rattle.slots.specs.Records.{newJob}
 use Rattle.slots.specs.OneSlot.{Work}
 use Rattle.slots.specs.History.{reported}
 use Rattle.slots.specs.LostUnits.{Ending, endingOf}
-use Rattle.dosing.specs.Jobs.{any, byPrimary, byAlternate, fell, endingAt, jobsDue}
-use Rattle.dosing.specs.Bags.{markOf, bagMark}
+use Rattle.dosing.specs.Jobs.{any, byPrimary, fell, endingAt, jobsDue}
 use Rattle.dosing.specs.Turns.{jobIn, startOf}
 use Rattle.dosing.proofs.JobWindows.{starts-is, start-same, starts-end, starts-inside}
-use Rattle.dosing.proofs.Due.{ending-at, due-none, due-same, due-closes}
+use Rattle.dosing.proofs.Due.{ending-at, due-same, due-closes}
 use Rattle.bagreport.specs.declared.told.Open.{Open}
 use Rattle.bagreport.specs.declared.due.Counts.{Counts}
 use Rattle.bagreport.specs.Answers.{worksOf}
-use Rattle.bagreport.specs.Pairs.{bags, startAt, endAt}
-use Rattle.bagreport.specs.Turns.{codeOf, noOpen, openFrom, Told, noCounts, countedBy, countsTo, Counted, ClosedAt, Looks, kindOf, joinedMark, Remarked, Bagged, Beyond}
-use Rattle.bagreport.proofs.JobCounted.{done-unit, fell-unit, mark-more, open-new}
+use Rattle.bagreport.specs.Turns.{codeOf, noOpen, openFrom, Told, noCounts, countedBy, countsTo, Counted}
+use Rattle.bagreport.proofs.Closing.{ClosedAt}
+use Rattle.bagreport.proofs.JobCounted.{done-unit, fell-unit, open-new}
 
 -- ---- one row, whose window at slot a ends no earlier than slot b
 module _ (rs : List Row) (works : ℕ → Work) (reports : ℕ → ℕ) (k : ℕ) (long : 0 < rowAt rs k .period) (a b : ℕ) (later : a < b) (near : b ≤ windowEnd (rowAt rs k) a) where

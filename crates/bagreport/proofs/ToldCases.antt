@@ -20,10 +20,10 @@ module _ (report p u : ℕ) where
   pub report-on : report ≡ 0 → (u ≡ p → ⊥) → 0 ≡ codeOf (byReport report p u)
   report-on e h = rw e (simp (ne-eqb u p h))
 
-pub report-failed : (report p u : ℕ) → (report ≡ 0 → ⊥) → (report ≡ 1 → ⊥) → 2 ≡ codeOf (byReport report p u)
-report-failed zero p u a b = absurd (a refl)
-report-failed (suc zero) p u a b = absurd (b refl)
-report-failed (suc (suc n)) p u a b = refl
+pub report-failed : (report p u : ℕ) → (report ≡ 0 → ⊥) → (report ≡ 1 → ⊥) → (r : ℕ) → r ≡ 2 → r ≡ codeOf (byReport report p u)
+report-failed zero p u a b r e = absurd (a refl)
+report-failed (suc zero) p u a b r e = absurd (b refl)
+report-failed (suc (suc n)) p u a b r e = e
 
 -- ---- the first ending stands
 module _ (ended later : ℕ) where

@@ -1,16 +1,14 @@
 -- The answer of the bag report, refused ones too, with lent bytes that held `old`.
 -- Assumes nothing: these are definitions.
-use Prim.Native.Nat.{ℕ, zero, suc, _-_, _/_}
-use mathlib.Core.Bool.{false, cond, _||_}
+use Prim.Native.Nat.{ℕ, zero, suc, _-_}
+use mathlib.Core.Bool.{cond, _||_}
 use mathlib.Core.List.{List, [], _∷_, _++_}
 use lib.Dec.{eqb, ltb}
 use lib.ListN.{length, replicate}
-use lib.Ieee.{binary64, round}
 use Rattle.refusal.specs.declared.Refusal.{Refusal}
 use Rattle.refusal.specs.declared.Refusal.the-variants.{Room, Dosing, Spans}
 use Rattle.refusal.specs.Order.{accepted, given, orElse}
 use Rattle.refusal.specs.Lent.{overlaid}
-use Rattle.table.specs.declared.Row.{Row}
 use Rattle.table.specs.declared.Table.{Table}
 use Rattle.table.specs.Rows.{used}
 use Rattle.reserve.specs.Check.{tableRefusal}
@@ -19,15 +17,16 @@ use Rattle.slots.specs.OneSlot.{Work}
 use Rattle.slots.specs.Reports.{runOf}
 use Rattle.slots.specs.History.{logged, reported}
 use Rattle.share.specs.declared.Share.{Share}
-use Rattle.share.specs.Share.{shareOf}
+use Rattle.share.specs.Share.{noNumber, shareOf}
 use Rattle.dosing.specs.Jobs.{any, byPrimary, fell, jobsDue}
-use Rattle.dosing.specs.Bags.{bagMarks, spansFault}
+use Rattle.dosing.specs.Bags.{bagMarks}
 use Rattle.bagreport.specs.declared.BagReport.{BagReport}
+use Rattle.bagreport.specs.Pairs.{bags, spansFault}
 
 -- ---- the refusals
 -- 8: 'one lent byte for each whole pair'
 unfoldable pub roomRefusal : (spans old : List ℕ) → Refusal
-roomRefusal spans old = given (ltb (length old) (length spans / 2)) Room
+roomRefusal spans old = given (ltb (length old) (bags spans)) Room
 
 -- 14 'for a dosing row outside the table'; 15 when the spans are at fault, 'or when there are more than 4,294,967,295 reports'
 unfoldable pub deskRefusal : (n row slots : ℕ) → List ℕ → Refusal
@@ -64,7 +63,7 @@ sixteenShares t reps = rowShares t reps 0 (length (used t)) ++ replicate (16 - l
 
 -- 'Beside a refusal, every figure not named here is 0'
 abbrev pub noShare : Share
-noShare = record { mark = 0; done = 0; of = 0; share = round binary64 false 0 1 }
+noShare = record { mark = 0; done = 0; of = 0; share = noNumber }
 
 -- ---- the answer and the lent bytes
 abbrev pub refusedWith : Refusal → BagReport

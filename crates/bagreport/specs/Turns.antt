@@ -1,16 +1,15 @@
 -- What private functions say of their work: no promise names these. Rows are counted from 0.
 -- Assumes nothing: these are definitions.
 use mathlib.Core.Path.{_≡_}
-use mathlib.Core.Bool.{true, false, cond}
+use mathlib.Core.Bool.{cond}
 use mathlib.Core.List.{List}
-use Prim.Native.Nat.{ℕ, _+_, _-_, _^_, _≤_, _<_, min}
+use Prim.Native.Nat.{ℕ, _+_, _-_, _≤_, _<_, min}
 use lib.Dec.{eqb}
 use lib.ListN.{length, getD, take, replicate}
 use Rattle.refusal.specs.declared.Refusal.the-variants.{None}
 use Rattle.table.specs.declared.Row.{Row}
 use Rattle.table.specs.declared.Table.{Table}
 use Rattle.table.specs.Rows.{used, rowAt}
-use Rattle.table.specs.Windows.{starts}
 use Rattle.reserve.specs.Check.{tableRefusal}
 use Rattle.slots.specs.declared.Record.{Record}
 use Rattle.slots.specs.Records.{newJob, freshRecord}
@@ -85,22 +84,6 @@ pub record Counted (t : Table) (reps : List ℕ) (at : ℕ) (cs : List Counts) :
   pub sixteen : length cs ≡ 16
   pub each : (k : ℕ) → k < length (used t) → getD cs k noCounts ≡ countsTo t reps k at
   pub past : (k : ℕ) → length (used t) ≤ k → getD cs k noCounts ≡ noCounts
-
--- no count is over the slots that have passed
-pub record Countable (at : ℕ) (cs : List Counts) : Type 0 where
-  pub few : at < 2 ^ 64
-  pub all : (k : ℕ) → getD cs k noCounts .all < at
-  pub done : (k : ℕ) → getD cs k noCounts .done < at
-  pub fell : (k : ℕ) → getD cs k noCounts .fell < at
-
--- what a slot at which windows may start leaves of the open jobs and the counts
-pub record ClosedAt (t : Table) (s : ℕ) (os : List Open) (cs : List Counts) (os' : List Open) (cs' : List Counts) : Type 0 where
-  pub size : length os' ≡ length os
-  pub sizes : length cs' ≡ length cs
-  pub opens : (k : ℕ) → k < length (used t) → getD os' k noOpen ≡ cond (starts (rowAt (used t) k) s) noOpen (getD os k noOpen)
-  pub rest : (k : ℕ) → length (used t) ≤ k → getD os' k noOpen ≡ getD os k noOpen
-  pub counts : (k : ℕ) → k < length (used t) → getD cs' k noCounts ≡ cond (starts (rowAt (used t) k) s) (countedBy (getD os k noOpen .ended) (getD cs k noCounts)) (getD cs k noCounts)
-  pub past : (k : ℕ) → length (used t) ≤ k → getD cs' k noCounts ≡ getD cs k noCounts
 
 -- ---- bags
 -- each bag ends after its start, and no later than the next one starts

@@ -1,10 +1,9 @@
 // The bags' bytes, as the deadlines of the dosing row come: spans are read once, in order.
 ghost use mathlib.Core.Path.{_≡_};
-ghost use Prim.Native.Nat.{_+_, _-_, _*_, _/_, _^_, _≤_, _<_};
-ghost use mathlib.Core.Bool.{true, false, cond};
+ghost use Prim.Native.Nat.{_+_, _/_, _≤_, _<_};
+ghost use mathlib.Core.Bool.{true, false};
 ghost use mathlib.Core.List.{_++_};
-ghost use lib.Dec.{eqb};
-ghost use lib.ListN.{length, getD, replicate, drop};
+ghost use lib.ListN.{length, replicate, drop};
 ghost use Rattle.table.specs.Windows.{starts};
 ghost use Rattle.bagreport.specs.Turns.{kindOf, joinedMark, Ordered, Past, Sought, Remarked};
 use crate::due;

@@ -1,10 +1,9 @@
 // The refusals of the order desk: the dosing row, the list of spans, and the number of reports.
 ghost use mathlib.Core.Path.{_≡_};
 ghost use mathlib.Core.Bool.{_||_};
-ghost use Prim.Native.Nat.{_<_};
 ghost use lib.Dec.{eqb, ltb, leb};
-ghost use Rattle.dosing.specs.Bags.{spansFault};
 ghost use Rattle.bagreport.specs.Answers.{deskRefusal};
+ghost use Rattle.bagreport.specs.Pairs.{spansFault};
 use refusal::Refusal;
 
 // Whether the row is outside the table.

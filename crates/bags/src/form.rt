@@ -1,7 +1,7 @@
 // What stands in an order, by its place: the dosing row; two bytes, how many numbers the spans have; those numbers, eight bytes each; two bytes, the size of the table file; the
 // file; then the reports. Numbers stand with the high byte first, and bytes that an order doesn't have count as 0.
 ghost use mathlib.Core.Path.{_≡_};
-ghost use Prim.Native.Nat.{_+_, _*_, _^_, _≤_, _<_, min};
+ghost use Prim.Native.Nat.{_+_, _^_, _≤_, _<_, min};
 ghost use lib.ListN.{length, getD};
 ghost use Rattle.bags.specs.Orders.{wordAt, longAt, Spanned};
 

@@ -6,7 +6,6 @@ use mathlib.Core.List.{List, [], _∷_, _++_, map}
 use lib.Dec.{ltb}
 use lib.ListN.{length, getD}
 use Rattle.refusal.specs.Numbers.{numberOf}
-use Rattle.table.specs.declared.Table.{Table}
 use Rattle.share.specs.declared.Share.{Share}
 use Rattle.bagreport.specs.declared.BagReport.{BagReport}
 use Rattle.bagreport.specs.Answers.{reportOf, marksAfter}

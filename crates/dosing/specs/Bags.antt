@@ -1,22 +1,20 @@
 -- Bags: spans of slots 'as a list of start, end, start, end in slots from the start, end not included', and how each was dosed. Rows are counted from 0.
 -- Assumes nothing: these are definitions.
 use Prim.Native.Nat.{ℕ, zero, suc}
-use mathlib.Core.Bool.{Bool, true, false, _||_}
 use mathlib.Core.List.{List, [], _∷_}
-use lib.Dec.{ltb, leb}
 use Rattle.table.specs.declared.Row.{Row}
 use Rattle.slots.specs.OneSlot.{Work}
 use Rattle.dosing.specs.Jobs.{byPrimary, byAlternate, jobsDue}
 
 -- by how many of the jobs it looks at were dosed by primary, and how many by alternate
 unfoldable pub markOf : (primaries alternates : ℕ) → ℕ
--- 'no job none (0)'
+-- "no job 'none' (0)"
 markOf zero zero = 0
--- 'all by primary is modelled (1)'
+-- "all by primary is 'modelled' (1)"
 markOf (suc p) zero = 1
--- 'all by alternate fixed (2)'
+-- "all by alternate 'fixed' (2)"
 markOf zero (suc a) = 2
--- 'both kinds mixed (3)'
+-- "both kinds 'mixed' (3)"
 markOf (suc p) (suc a) = 3
 
 module _ (rs : List Row) (works : ℕ → Work) (reports : ℕ → ℕ) (k : ℕ) where
@@ -29,9 +27,3 @@ module _ (rs : List Row) (works : ℕ → Work) (reports : ℕ → ℕ) (k : ℕ
   bagMarks [] = []
   bagMarks (start ∷ []) = []
   bagMarks (start ∷ end ∷ spans) = bagMark start end ∷ bagMarks spans
-
--- 'the list is odd, a span doesn't end after its start, ends past the slots run or starts before the previous end'
-unfoldable pub spansFault : (slots previous : ℕ) → List ℕ → Bool
-spansFault slots previous [] = false
-spansFault slots previous (start ∷ []) = true
-spansFault slots previous (start ∷ end ∷ spans) = leb end start || (ltb slots end || (ltb start previous || spansFault slots end spans))

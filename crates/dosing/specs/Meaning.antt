@@ -56,18 +56,18 @@ module _ (rs : List Row) (works : ℕ → Work) (reports : ℕ → ℕ) (k : ℕ
       × ((reports t ≡ 2) ⊎ ((reports t ≡ 0) × (primaries k works (opens (rowAt rs k) j) (suc t) ≡ rowAt rs k .primary)))
 
   -- ---- one bag
-  -- 'no job none (0)'
+  -- "no job 'none' (0)"
   abbrev pub NoneBag : (start end : ℕ) → Type 0
   NoneBag start end = Each (rowAt rs k) start end (λ j. ⊥)
 
-  -- 'all by primary is modelled (1)': it looks at some job
+  -- "all by primary is 'modelled' (1)": it looks at some job
   abbrev pub ModelledBag : (start end : ℕ) → Type 0
   ModelledBag start end = Some (rowAt rs k) start end Modelled × Each (rowAt rs k) start end Modelled
 
-  -- 'all by alternate fixed (2)'
+  -- "all by alternate 'fixed' (2)"
   abbrev pub FixedBag : (start end : ℕ) → Type 0
   FixedBag start end = Some (rowAt rs k) start end Fixed × Each (rowAt rs k) start end Fixed
 
-  -- 'both kinds mixed (3)'
+  -- "both kinds 'mixed' (3)"
   abbrev pub MixedBag : (start end : ℕ) → Type 0
   MixedBag start end = Some (rowAt rs k) start end Modelled × Some (rowAt rs k) start end Fixed

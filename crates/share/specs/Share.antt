@@ -6,9 +6,13 @@ use lib.Dec.{eqb}
 use lib.Ieee.{Float, binary64, round, toBits}
 use Rattle.share.specs.declared.Share.{Share}
 
--- the binary64 number nearest to the quotient, of two equally near the even one: 'carried over exactly and divided once'. Without a divisor 0 / 1, which is +0.0
+-- +0.0: nothing, over something
+abbrev pub noNumber : Float
+noNumber = round binary64 false 0 1
+
+-- the binary64 number nearest to the quotient, of two equally near the even one: 'carried over exactly and divided once'. Without a divisor +0.0
 unfoldable pub shareNumber : (done of : ℕ) → Float
-shareNumber done of = cond (eqb of 0) (round binary64 false 0 1) (round binary64 false done of)
+shareNumber done of = cond (eqb of 0) noNumber (round binary64 false done of)
 
 -- its 64 bits
 unfoldable pub shareBits : (done of : ℕ) → ℕ
