@@ -10,7 +10,7 @@ use crate::told::Open;
 use table::{Row, Table};
 
 // A row's jobs whose deadline has come: all of them, those done by their primary, and those reported failed or overrun.
-#[derive(Drop)]
+#[derive(Clone, Copy)]
 pub(crate) struct Counts {
     pub all: usize,
     pub done: usize,

@@ -1,4 +1,6 @@
 // The bag report: how each bag of an order was dosed by one row, and each row's share of primaries done, over reports from a fresh start.
+#![tactic(auto)]
+
 ghost use Rattle.std.specs.Prelude.{◌≡◌, ◌++◌, ◌+◌, ◌-◌, ◌/◌, ◌^◌, ◌≤◌, ◌<◌, length, drop, replicate};
 ghost use Rattle.refusal.specs.declared.Refusal.TheVariants.{None};
 ghost use Rattle.table.specs.Rows.{used};
@@ -24,7 +26,7 @@ mod spans;
 mod told;
 
 // The answer: the refusal, or none, and each place's share. Beside a refusal every figure is 0.
-#[derive(Drop)]
+#[derive(Clone, Copy)]
 pub struct BagReport {
     pub refusal: Refusal,
     pub shares: [Share; 16],

@@ -15,7 +15,7 @@ use slots::{Ran, Record};
 use table::Table;
 
 // What has been told so far: each row's open job, its counts, and the bag to look at next.
-#[derive(Drop)]
+#[derive(Clone, Copy)]
 pub(crate) struct Tale {
     pub opens: [Open; 16],
     pub counts: [Counts; 16],
@@ -23,7 +23,7 @@ pub(crate) struct Tale {
 }
 
 // What a pass comes to: the refusal that stopped it, and each row's counts.
-#[derive(Drop)]
+#[derive(Clone, Copy)]
 pub(crate) struct Passed {
     pub refusal: Refusal,
     pub counts: [Counts; 16],

@@ -7,7 +7,7 @@ ghost use Rattle.bagreport.specs.Turns.{code_of, told_by};
 use table::Row;
 
 // A row's job whose deadline has not come: 0 its primary goes on, 1 it was reported done, 2 it was reported failed or overran, 3 it was aborted.
-#[derive(Drop)]
+#[derive(Clone, Copy)]
 pub(crate) struct Open {
     pub units: usize,
     pub ended: usize,

@@ -2,7 +2,7 @@
 ghost use Rattle.std.specs.Prelude.{◌≡◌, cond, ◌≤◌, ◌<◌, eqb, length};
 ghost use Rattle.bags.specs.Lines.{of_kind, millionths};
 
-use libc::STDOUT_FILENO;
+use crate::STDOUT_FILENO;
 use share::Share;
 
 // A word, and a number after it.

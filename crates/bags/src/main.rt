@@ -1,17 +1,22 @@
 // Reads one order from standard input: the dosing row, the bags' spans, a table file, and the reports of a run from a fresh start. Prints how each bag was dosed, how many there are
 // of each kind, and each row's share; or the one line of a refusal.
+#![tactic(auto)]
+
 ghost use Rattle.std.specs.Prelude.{◌≡◌, ◌/◌, ◌≤◌, length};
 ghost use Rattle.refusal.specs.declared.Refusal.TheVariants.{None};
 ghost use Rattle.reserve.specs.Check.{table_refusal};
 
 use bagreport::BagReport;
-use libc::{STDIN_FILENO, STDOUT_FILENO};
 use refusal::Refusal;
 use share::Share;
 use table::Table;
 
 mod form;
 mod lines;
+
+// The descriptors that a process is started with.
+const STDIN_FILENO: i32 = 0;
+pub(crate) const STDOUT_FILENO: i32 = 1;
 
 // 'refused 15 row 0'
 fn print_refusal(f: Refusal) {

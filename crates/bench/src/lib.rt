@@ -1,4 +1,6 @@
 // What a measurement calls from Rust: a list of reports from a table's fresh start, run at once and by single slots, and the bag report on it.
+#![tactic(auto)]
+
 ghost use Rattle.std.specs.Prelude.{◌≡◌, length};
 ghost use Rattle.bench.specs.Bags.{even_report, even_marks, bag_figure};
 ghost use Rattle.bench.specs.Lists.{list_ran, list_log, list_buffer, single_slots, single_log};

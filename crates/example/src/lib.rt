@@ -1,4 +1,6 @@
 // How another crate uses the library: what a controller asks before each slot.
+#![tactic(auto)]
+
 ghost use Rattle.std.specs.Prelude.{◌≡◌};
 ghost use Rattle.example.specs.FixedDose.{fixed_dose};
 

@@ -1,4 +1,6 @@
 // Reads a table file from standard input and prints the cycle, the number of jobs and each job's first slot, or the one line of a refusal.
+#![tactic(auto)]
+
 ghost use Rattle.std.specs.Prelude.{◌≡◌, length, get_or};
 ghost use Rattle.refusal.specs.declared.Refusal.TheVariants.{None};
 ghost use Rattle.table.specs.Rows.{used};
@@ -7,12 +9,15 @@ ghost use Rattle.reserve.specs.Lists.{first_slots};
 ghost use Rattle.reserve.specs.Turns.{Ready};
 ghost use Rattle.plan.specs.Lines.{plan_lines, no_line, Begins};
 
-use libc::{STDIN_FILENO, STDOUT_FILENO};
 use refusal::Refusal;
 use table::Table;
 
+// The descriptors that a process is started with.
+const STDIN_FILENO: i32 = 0;
+const STDOUT_FILENO: i32 = 1;
+
 // A row, one of its jobs and the job's first slot.
-#[derive(Drop)]
+#[derive(Clone, Copy)]
 struct Line {
     row: u8,
     job: usize,

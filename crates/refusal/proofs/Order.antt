@@ -37,17 +37,14 @@ pub accepted_none : (f : Refusal) → accepted f ≡ true → f ≡ None
 accepted_none f e = number_none f (eqb-true (number_of f) 0 e)
 
 -- ---- a refusal that a `match` has told from None
-abbrev others : List ℕ
-others = 1 ∷ 2 ∷ 3 ∷ 4 ∷ 5 ∷ 6 ∷ 7 ∷ 8 ∷ 9 ∷ 10 ∷ 11 ∷ 12 ∷ 13 ∷ 14 ∷ 15 ∷ []
-
 abbrev pub Told : Refusal → Type 0
-Told f = OneOf others (tag_of the_type f)
+Told f = f ≡ None → ⊥
 
 pub refused : (f : Refusal) → Told f → accepted f ≡ false
 refused f p = go (accepted f) refl
   where
     go : (b : Bool) → accepted f ≡ b → b ≡ false
-    go true e = absurd (miss others 0 tt (subst Told (accepted_none f e) p))
+    go true e = absurd (p (accepted_none f e))
     go false e = refl
 
 -- ---- the first of two that applies

@@ -1,9 +1,11 @@
 // Why an entry refuses what it was given, or that it does not.
+#![tactic(auto)]
+
 ghost use Rattle.std.specs.Prelude.{◌≡◌};
 ghost use Rattle.refusal.specs.Numbers.{number_of, row_of};
 
 // The refusals of documents 01 and 02, in the order of their numbers. Those that name a row hold it, counted from 1.
-#[derive(Drop)]
+#[derive(Clone, Copy)]
 pub enum Refusal {
     None,
     Empty,

@@ -12,7 +12,7 @@ use slots::Ran;
 use table::Table;
 
 // What a chunk comes to: the progress after it, and how many bytes its slots' lines take.
-#[derive(Drop)]
+#[derive(Clone, Copy)]
 pub(crate) struct Chunk {
     pub(crate) after: Progress,
     pub(crate) used: usize,

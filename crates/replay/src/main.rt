@@ -1,5 +1,7 @@
 // Reads a table file and, after it, the reports of a run from a fresh start, one byte for each slot. Prints a line for each accepted slot, how the list
 // ended, and the record after the accepted slots; or the one line of a refused table.
+#![tactic(auto)]
+
 ghost use Rattle.std.specs.Prelude.{◌≡◌, ◌+◌, ◌^◌, ◌≤◌, ◌<◌, length, take};
 ghost use Rattle.io.specs.Counts.{IsPrefixLen};
 ghost use Rattle.refusal.specs.declared.Refusal.TheVariants.{None};
@@ -8,7 +10,6 @@ ghost use Rattle.tablefile.specs.Layout.{length_field};
 ghost use Rattle.replay.specs.Chunks.{start_of};
 ghost use Rattle.replay.specs.Turns.{Replayed};
 
-use libc::{STDIN_FILENO, STDOUT_FILENO};
 use refusal::Refusal;
 use slots::Record;
 use table::Table;
@@ -18,8 +19,12 @@ mod ending;
 mod lines;
 mod text;
 
+// The descriptors that a process is started with.
+const STDIN_FILENO: i32 = 0;
+const STDOUT_FILENO: i32 = 1;
+
 // What the reports so far have come to: the refusal that stopped them, the slots accepted, the lost units, 0 beside a refusal, and the record after those slots.
-#[derive(Drop)]
+#[derive(Clone, Copy)]
 struct Progress {
     refusal: Refusal,
     slots: u64,

@@ -1,4 +1,6 @@
 // The reservations of a table: whether the rule leaves a job short, which row holds each slot, and when each job's alternate must start.
+#![tactic(auto)]
+
 ghost use Rattle.std.specs.Prelude.{◌≡◌};
 ghost use Rattle.table.specs.Rows.{used};
 ghost use Rattle.reserve.specs.Check.{table_check};
@@ -13,14 +15,14 @@ mod scan;
 mod sweep;
 
 // The answer of an entry that writes into lent memory: a refusal, and beside an acceptance how many places were written, else 0.
-#[derive(Drop)]
+#[derive(Clone, Copy)]
 pub struct Handed {
     pub refusal: Refusal,
     pub used: usize,
 }
 
 // What the rule says from a clock on: a refusal (1 to 6), the cycle, the first row with a job that is short, and the holder of the clock's slot; 0 for none.
-#[derive(Drop)]
+#[derive(Clone, Copy)]
 pub struct Standing {
     pub refusal: Refusal,
     pub cycle: u16,

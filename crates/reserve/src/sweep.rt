@@ -12,7 +12,7 @@ ghost use Rattle.reserve.specs.Turns.{Ready, Unspent, claim_at, lower_of, Coming
 use table::{Row, Table};
 
 // What one slot's turn leaves: the rests of the rows' claims, the slot's holder, and the lowest row that is short there; 0 for none.
-#[derive(Drop)]
+#[derive(Clone, Copy)]
 struct Passed {
     rests: [u16; 16],
     holder: u8,
@@ -20,7 +20,7 @@ struct Passed {
 }
 
 // What a sweep down to the clock leaves: the holder of the clock's slot, and the first row that is short; 0 for none.
-#[derive(Drop)]
+#[derive(Clone, Copy)]
 pub(crate) struct Swept {
     pub(crate) holder: u8,
     pub(crate) short: u8,

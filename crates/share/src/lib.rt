@@ -1,11 +1,12 @@
 // A share of two counts: carried over to binary64 exactly and divided once.
+#![tactic(auto)]
 ghost use Rattle.std.specs.Prelude.{◌≡◌};
 ghost use Rattle.std.specs.Float.{binary64};
 ghost use Rattle.std.specs.Float.Ieee.{to_bits};
 ghost use Rattle.share.specs.Share.{share_of, share_bits};
 
 // A row's share: primaries done over the jobs that count, with both counts. Where no job counts it carries 16 beside a share of +0.0.
-#[derive(Drop)]
+#[derive(Clone, Copy)]
 pub struct Share {
     pub mark: u8,
     pub done: u32,

@@ -8,7 +8,7 @@ ghost use Rattle.slots.specs.Turns.{members_of, lowest_in};
 use crate::{Job, State};
 
 // The set, its lowest member counted from 1, 0 of the empty set, and the count of its members.
-#[derive(Drop)]
+#[derive(Clone, Copy)]
 pub(crate) struct Members {
     pub set: u16,
     pub row: u8,

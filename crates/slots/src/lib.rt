@@ -1,4 +1,6 @@
 // The record of a table's run, by value: what stands at a clock, one slot, and a list of reports.
+#![tactic(auto)]
+
 ghost use Rattle.std.specs.Prelude.{◌≡◌, ◌≤◌};
 ghost use Rattle.slots.specs.Records.{fresh_jobs, started_for};
 ghost use Rattle.slots.specs.WaitingSet.{awaiting_of};
@@ -19,7 +21,7 @@ mod slot;
 mod turn;
 
 // A row's current job: its primary may still run, or has failed (reported, overrun or aborted), or is done.
-#[derive(Drop)]
+#[derive(Clone, Copy)]
 pub enum State {
     Waiting,
     Failed,
@@ -27,7 +29,7 @@ pub enum State {
 }
 
 // A row's current job: its state, the primary units run and the alternate units left.
-#[derive(Drop)]
+#[derive(Clone, Copy)]
 pub struct Job {
     pub state: State,
     pub run: u16,
@@ -35,28 +37,28 @@ pub struct Job {
 }
 
 // A record: the clock, and each row's current job. Entries past the table's rows are ignored and handed back as they came.
-#[derive(Drop)]
+#[derive(Clone, Copy)]
 pub struct Record {
     pub clock: u16,
     pub jobs: [Job; 16],
 }
 
 // The answer of `fresh`: a refusal beside the record to start from.
-#[derive(Drop)]
+#[derive(Clone, Copy)]
 pub struct Started {
     pub refusal: Refusal,
     pub start: Record,
 }
 
 // The answer of the question: the log's byte for the slot at the clock, 0 beside a refusal.
-#[derive(Drop)]
+#[derive(Clone, Copy)]
 pub struct Asked {
     pub refusal: Refusal,
     pub ran: u8,
 }
 
 // The rows waiting at the clock as a set of 16 bits, row 1 in the lowest place, the row taken and the number waiting; 0 beside a refusal.
-#[derive(Drop)]
+#[derive(Clone, Copy)]
 pub struct Awaiting {
     pub refusal: Refusal,
     pub set: u16,
@@ -65,7 +67,7 @@ pub struct Awaiting {
 }
 
 // The answer of one slot: the next record and the byte that ran; beside a refusal the record given and 0.
-#[derive(Drop)]
+#[derive(Clone, Copy)]
 pub struct Stepped {
     pub refusal: Refusal,
     pub next: Record,
@@ -73,7 +75,7 @@ pub struct Stepped {
 }
 
 // The answer of a run: the slots accepted and the record after them.
-#[derive(Drop)]
+#[derive(Clone, Copy)]
 pub struct Ran {
     pub refusal: Refusal,
     pub slots: usize,
@@ -81,7 +83,7 @@ pub struct Ran {
 }
 
 // The answer of lost units; 0 beside a refusal.
-#[derive(Drop)]
+#[derive(Clone, Copy)]
 pub struct Lost {
     pub refusal: Refusal,
     pub units: u64,

@@ -13,7 +13,7 @@ use refusal::Refusal;
 use table::Table;
 
 // What a list has come to: the refusal that stopped it, the slots accepted, the record after them, and the units that they lost.
-#[derive(Drop)]
+#[derive(Clone, Copy)]
 pub(crate) struct Course {
     pub refusal: Refusal,
     pub slots: usize,

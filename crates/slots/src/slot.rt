@@ -14,7 +14,7 @@ use refusal::Refusal;
 use table::Table;
 
 // What stands before a slot: a refusal, or the cycle and the holder of the clock's slot.
-#[derive(Drop)]
+#[derive(Clone, Copy)]
 pub(crate) struct Admitted {
     pub refusal: Refusal,
     pub cycle: u16,

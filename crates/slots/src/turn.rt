@@ -10,7 +10,7 @@ use refusal::Refusal;
 use table::Row;
 
 // What a slot runs: the refusal of its report, the log's byte, and the place of the entry that the unit moves; 0 where the slot is idle.
-#[derive(Drop)]
+#[derive(Clone, Copy)]
 pub(crate) struct Turn {
     pub refusal: Refusal,
     pub ran: u8,
@@ -18,7 +18,7 @@ pub(crate) struct Turn {
 }
 
 // What the unit leaves: its entry, the waiting set, the primary units that are lost by it, and the row, counted from 1, whose job is done by it; 0 for none.
-#[derive(Drop)]
+#[derive(Clone, Copy)]
 pub(crate) struct Moved {
     pub job: Job,
     pub waiting: u16,

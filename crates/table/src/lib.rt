@@ -1,4 +1,6 @@
 // Rows, tables of rows and their cycle, with the refusals of a table that come before the reservation rule.
+#![tactic(auto)]
+
 ghost use Rattle.std.specs.Prelude.{◌≡◌, cond, ◌≤◌, leb};
 ghost use Rattle.table.specs.Gcd.{gcd_of, lcm_of};
 ghost use Rattle.table.specs.Rows.{used, cycle_of};
@@ -7,7 +9,7 @@ ghost use Rattle.table.specs.Check.{fault_of, faults_of, rows_check};
 use refusal::Refusal;
 
 // A periodic task: its period, and the times of its primary and of its alternate, in slots.
-#[derive(Drop)]
+#[derive(Clone, Copy)]
 pub struct Row {
     pub period: u16,
     pub primary: u16,
@@ -15,14 +17,14 @@ pub struct Row {
 }
 
 // The first n places are the table's rows, and the others are ignored, whatever they hold.
-#[derive(Drop)]
+#[derive(Clone, Copy)]
 pub struct Table {
     pub n: u8,
     pub rows: [Row; 16],
 }
 
 // The answer of a check: a refusal, and beside an acceptance the cycle, else 0.
-#[derive(Drop)]
+#[derive(Clone, Copy)]
 pub struct Checked {
     pub refusal: Refusal,
     pub cycle: u16,

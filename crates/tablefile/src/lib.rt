@@ -1,4 +1,6 @@
 // The table file: what a dealer's table is stored in, read and written.
+#![tactic(auto)]
+
 ghost use Rattle.std.specs.Prelude.{◌≡◌, ◌+◌, ◌*◌, ◌≤◌, ◌<◌, length};
 ghost use Rattle.std.proofs.lemmas.List.Edits.{sets};
 ghost use Rattle.table.specs.Rows.{used};
@@ -12,7 +14,7 @@ use reserve::Handed;
 use table::{Row, Table};
 
 // The answer of a reading: the table, or a refusal beside a table of zeros with n 0.
-#[derive(Drop)]
+#[derive(Clone, Copy)]
 pub struct Reading {
     pub refusal: Refusal,
     pub table: Table,

@@ -1,11 +1,16 @@
 // Reads cases from standard input, calls the library's public entries on them, and prints every answer (docs/VECTORS.md).
+#![tactic(auto)]
+
 ghost use Rattle.std.specs.Prelude.{◌≤◌, length};
 
-use libc::STDIN_FILENO;
 
 mod called;
 mod form;
 mod print;
+
+// The descriptors that a process is started with.
+const STDIN_FILENO: i32 = 0;
+pub(crate) const STDOUT_FILENO: i32 = 1;
 
 // Reads so many bytes of the input to the start of a buffer, and answers how many there were.
 fn take_in(body: &mut [u8], size: usize) -> usize

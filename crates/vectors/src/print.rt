@@ -2,7 +2,7 @@
 ghost use Rattle.std.specs.Prelude.{◌≤◌, length};
 ghost use Rattle.vectors.specs.Shares.{Number, Numbers};
 
-use libc::STDOUT_FILENO;
+use crate::STDOUT_FILENO;
 use refusal::Refusal;
 use share::Share;
 use slots::{Job, Record, State};

@@ -1,0 +1,20 @@
+-- `table::fold` meets its contract. The loop's invariant: capped, the cycle is the fold from c of the rows from i on. The measure is the number of rows left.
+use mathlib.Core.Path.{◌≡◌, refl}
+use Prim.Native.Nat.{◌-◌, ◌≤◌}
+use native.Mathlib.Omega.{arith}
+use borrow.Author.Rules.{rules}
+use lib.ListN.{drop}
+use Rattle.table.specs.Rows.{used, fold_of, cycle_of}
+use Rattle.table.proofs.Lists.{long}
+use Rattle.table.proofs.Capped.{capped, fold_turn, joined_small, fold_end}
+use Rattle.table.proofs.fold.Goals as goal
+
+pub loop-i-init : goal.loop-i-init
+unfolding cycle_of
+loop-i-init c = (omega arith, omega arith, refl)
+
+pub loop-i-preserved : goal.loop-i-preserved
+loop-i-preserved c = (omega arith, search (joined_small), search (fold_turn, long))
+
+pub returns : goal.returns
+returns c = search (fold_end)
