@@ -16,7 +16,7 @@ use lib.Dec.{ltb, eqb}
 use lib.ListN.{length, drop, drop_of_length-le}
 use lib.Seq.{drop-cons}
 use Rattle.refusal.specs.declared.Refusal.{Refusal}
-use Rattle.refusal.specs.declared.Refusal.TheVariants.{None, Empty, Many, Zero, Long, Order, Cycle, Tight, Room}
+use Rattle.refusal.specs.declared.Refusal.TheVariants.{None, Empty, Many, Zero, Long, Order, Cycle, Tight, Room, Dosing, Record, Report, Size, Spans, Stray, Version}
 use Rattle.refusal.specs.Order.{accepted, given, or_else}
 use Rattle.refusal.proofs.Order.{passes}
 use Rattle.table.specs.declared.Row.{Row}
@@ -70,6 +70,7 @@ before rs (suc i) = (row_at rs i).period
 
 early_less : (rs : List Row) (i : ℕ) → EarlyRow rs i → (row_at rs i).period < before rs i
 unfolding EarlyRow
+early_less rs zero e = elim e [ ]
 early_less rs (suc i) e = e
 
 less_early : (rs : List Row) (i : ℕ) → (row_at rs i).period < before rs i → EarlyRow rs i
@@ -182,6 +183,15 @@ module _ (t : Table) where
   rows_if (Long k) g = given_row Long refl (λ i w. fault_long rs i w.0 w.1) g
   rows_if (Order k) g = given_row Order refl (λ i w. fault_order rs i w.0 w.1 w.2) g
   rows_if Cycle g = given_cycle g.0 g.1 g.2
+  rows_if (Tight _) g = elim g [ ]
+  rows_if Room g = elim g [ ]
+  rows_if Record g = elim g [ ]
+  rows_if Report g = elim g [ ]
+  rows_if Stray g = elim g [ ]
+  rows_if Size g = elim g [ ]
+  rows_if Version g = elim g [ ]
+  rows_if Dosing g = elim g [ ]
+  rows_if Spans g = elim g [ ]
 
   -- ---- and of every table one of these things can be said
   abbrev SomeRows : Type 0
@@ -234,6 +244,14 @@ module _ (t : Table) where
   given_if (Order k) g = given_rows (Order k) refl g
   given_if Cycle g = given_rows Cycle refl g
   given_if (Tight k) g = (tight_exactly t (rows_if None g.0) g.1.0).1 g.1.2 ∙ ap Tight (sym g.1.1)
+  given_if Room g = elim g [ ]
+  given_if Record g = elim g [ ]
+  given_if Report g = elim g [ ]
+  given_if Stray g = elim g [ ]
+  given_if Size g = elim g [ ]
+  given_if Version g = elim g [ ]
+  given_if Dosing g = elim g [ ]
+  given_if Spans g = elim g [ ]
 
   abbrev SomeGives : Type 0
   SomeGives = (f : Refusal) × TableGives t f
@@ -259,6 +277,15 @@ module _ (t : Table) where
   some_gives (Long k) g = (Long k, g)
   some_gives (Order k) g = (Order k, g)
   some_gives Cycle g = (Cycle, g)
+  some_gives (Tight _) g = elim g [ ]
+  some_gives Room g = elim g [ ]
+  some_gives Record g = elim g [ ]
+  some_gives Report g = elim g [ ]
+  some_gives Stray g = elim g [ ]
+  some_gives Size g = elim g [ ]
+  some_gives Version g = elim g [ ]
+  some_gives Dosing g = elim g [ ]
+  some_gives Spans g = elim g [ ]
 
 -- 'Given exactly when': 1 to 6
 pub rows_gives : (t : Table) (f : Refusal) → (rows_refusal t ≡ f) ↔ RowsGives t f
@@ -298,6 +325,13 @@ module _ (t : Table) (new old : List ℕ) where
   handed_if (Order k) g = handed_table (Order k) refl g
   handed_if Cycle g = handed_table Cycle refl g
   handed_if (Tight k) g = handed_table (Tight k) refl g
+  handed_if Record g = elim g [ ]
+  handed_if Report g = elim g [ ]
+  handed_if Stray g = elim g [ ]
+  handed_if Size g = elim g [ ]
+  handed_if Version g = elim g [ ]
+  handed_if Dosing g = elim g [ ]
+  handed_if Spans g = elim g [ ]
 
   some_handed : (f : Refusal) → TableGives t f → (f : Refusal) × HandedGives t new old f
   unfolding HandedGives TableGives
@@ -309,6 +343,14 @@ module _ (t : Table) (new old : List ℕ) where
   some_handed (Order k) g = (Order k, g)
   some_handed Cycle g = (Cycle, g)
   some_handed (Tight k) g = (Tight k, g)
+  some_handed Room g = elim g [ ]
+  some_handed Record g = elim g [ ]
+  some_handed Report g = elim g [ ]
+  some_handed Stray g = elim g [ ]
+  some_handed Size g = elim g [ ]
+  some_handed Version g = elim g [ ]
+  some_handed Dosing g = elim g [ ]
+  some_handed Spans g = elim g [ ]
 
   pub handed_gives : (f : Refusal) → (handed_refusal t new old ≡ f) ↔ HandedGives t new old f
   handed_gives = exact (HandedGives t new old) handed_if (some_handed (table_refusal t) ((table_gives t (table_refusal t)).0 refl))

@@ -12,8 +12,8 @@ use borrow.Author.Tests.{eqb-true, eq-eqb, ltb-true, lt-ltb, leb-true, le-leb}
 use lib.Dec.{ltb, leb, eqb}
 use lib.ListN.{length}
 use Rattle.refusal.specs.declared.Refusal.{Refusal}
-use Rattle.refusal.specs.declared.Refusal.TheVariants.{None, Empty, Many, Zero, Long, Order, Cycle, Tight, Report, Stray}
-use Rattle.refusal.specs.declared.Refusal.TheVariants.{Record as NotSound}
+use Rattle.refusal.specs.declared.Refusal.TheVariants.{None, Empty, Many, Zero, Long, Order, Cycle, Tight, Report, Stray, Dosing, Room, Size, Spans, Version}
+use Rattle.refusal.specs.declared.Refusal.TheVariants.{Record as NotSound, Dosing, Room, Size, Spans, Version}
 use Rattle.refusal.specs.Order.{accepted, given, or_else}
 use Rattle.refusal.proofs.Order.{accepted_none, passes}
 use Rattle.table.specs.declared.Row.{Row}
@@ -155,6 +155,13 @@ module _ (t : Table) (q : Record) where
   record_if (Order k) g = at_table (Order k) refl g
   record_if Cycle g = at_table Cycle refl g
   record_if (Tight k) g = at_table (Tight k) refl g
+  record_if Room g = elim g [ ]
+  record_if Report g = elim g [ ]
+  record_if Stray g = elim g [ ]
+  record_if Size g = elim g [ ]
+  record_if Version g = elim g [ ]
+  record_if Dosing g = elim g [ ]
+  record_if Spans g = elim g [ ]
 
   some_record : (f : Refusal) → TableGives t f → (f : Refusal) × RecordGives t q f
   unfolding RecordGives TableGives
@@ -168,6 +175,14 @@ module _ (t : Table) (q : Record) where
   some_record (Order k) g = (Order k, g)
   some_record Cycle g = (Cycle, g)
   some_record (Tight k) g = (Tight k, g)
+  some_record Room g = elim g [ ]
+  some_record NotSound g = elim g [ ]
+  some_record Report g = elim g [ ]
+  some_record Stray g = elim g [ ]
+  some_record Size g = elim g [ ]
+  some_record Version g = elim g [ ]
+  some_record Dosing g = elim g [ ]
+  some_record Spans g = elim g [ ]
 
   pub record_gives : (f : Refusal) → (record_refusal t q ≡ f) ↔ RecordGives t q f
   record_gives = exact (RecordGives t q) record_if (some_record (table_refusal t) ((table_gives t (table_refusal t)).0 refl))
@@ -200,6 +215,19 @@ module _ (w : Work) where
   report_if rep None (inr h) = report_ends rep h.0 ∙ rw (ran_test w h.1) refl
   report_if rep Report g = rw (lt-ltb 2 rep g) refl
   report_if rep Stray g = report_ends rep g.0 ∙ rw (not_ran w g.1) refl
+  report_if rep Empty g = elim g [ ]
+  report_if rep Many g = elim g [ ]
+  report_if rep (Zero _) g = elim g [ ]
+  report_if rep (Long _) g = elim g [ ]
+  report_if rep (Order _) g = elim g [ ]
+  report_if rep Cycle g = elim g [ ]
+  report_if rep (Tight _) g = elim g [ ]
+  report_if rep Room g = elim g [ ]
+  report_if rep NotSound g = elim g [ ]
+  report_if rep Size g = elim g [ ]
+  report_if rep Version g = elim g [ ]
+  report_if rep Dosing g = elim g [ ]
+  report_if rep Spans g = elim g [ ]
 
   some_end : (rep : ℕ) → Ends rep → (w' : Work) → w ≡ w' → (f : Refusal) × ReportGives w rep f
   unfolding ReportGives

@@ -12,7 +12,7 @@ use lib.Dec.{ltb}
 use lib.ListN.{length, get_or, take, drop, length-append, length-drop, get_or-append}
 use lib.Seq.{get_or-append-add, get_or-drop, take_at, drop_at}
 use Rattle.refusal.specs.declared.Refusal.{Refusal}
-use Rattle.refusal.specs.declared.Refusal.TheVariants.{None, Room, Report, Stray}
+use Rattle.refusal.specs.declared.Refusal.TheVariants.{None, Room, Report, Stray, Cycle, Dosing, Empty, Long, Many, Order, Record as Unsound, Size, Spans, Tight, Version, Zero}
 use Rattle.refusal.specs.Order.{accepted, beside}
 use Rattle.refusal.specs.Lent.{overlaid}
 use Rattle.refusal.proofs.Order.{accepted_none, none_first, none_later, given_not}
@@ -57,6 +57,19 @@ unfolding ReportGives
 report_kinds w rep None g = inl refl
 report_kinds w rep Report g = inr (inl refl)
 report_kinds w rep Stray g = inr (inr refl)
+report_kinds w rep Empty g = elim g [ ]
+report_kinds w rep Many g = elim g [ ]
+report_kinds w rep (Zero _) g = elim g [ ]
+report_kinds w rep (Long _) g = elim g [ ]
+report_kinds w rep (Order _) g = elim g [ ]
+report_kinds w rep Cycle g = elim g [ ]
+report_kinds w rep (Tight _) g = elim g [ ]
+report_kinds w rep Room g = elim g [ ]
+report_kinds w rep Unsound g = elim g [ ]
+report_kinds w rep Size g = elim g [ ]
+report_kinds w rep Version g = elim g [ ]
+report_kinds w rep Dosing g = elim g [ ]
+report_kinds w rep Spans g = elim g [ ]
 
 run_kinds : (rs : List Row) (q : Record) (reps : List ℕ) → ((run_of rs q reps).refusal ≡ None) ⊎ ByReport (run_of rs q reps).refusal
 run_kinds rs q reps = ⊎_elim (λ h. inl h.0) (λ h. report_kinds _ _ _ h.2) (list_stops rs q reps).stop

@@ -11,7 +11,7 @@ use borrow.Author.Tests.{eqb-true, eqb-false}
 use lib.Dec.{eqb}
 use lib.ListN.{length}
 use Rattle.refusal.specs.declared.Refusal.{Refusal}
-use Rattle.refusal.specs.declared.Refusal.TheVariants.{None, Empty, Many, Zero, Long, Order, Cycle, Tight, Size, Version}
+use Rattle.refusal.specs.declared.Refusal.TheVariants.{None, Empty, Many, Zero, Long, Order, Cycle, Tight, Size, Version, Dosing, Record, Report, Room, Spans, Stray}
 use Rattle.refusal.specs.Order.{accepted, or_else}
 use Rattle.refusal.proofs.Order.{passes}
 use Rattle.rule.proofs.Tests.{split, side}
@@ -81,6 +81,12 @@ module _ (s : List ℕ) where
   given_if Size (inl c) = given_unmatched c
   given_if Size (inr g) = given_size g.0 g.1 g.2
   given_if Version g = given_version g.0 g.1
+  given_if Room g = elim g [ ]
+  given_if Record g = elim g [ ]
+  given_if Report g = elim g [ ]
+  given_if Stray g = elim g [ ]
+  given_if Dosing g = elim g [ ]
+  given_if Spans g = elim g [ ]
 
   -- ---- of every file one of these things can be said
   abbrev SomeGives : Type 0
@@ -96,6 +102,14 @@ module _ (s : List ℕ) where
   framed_gives r (Order k) g = (r, g)
   framed_gives r Cycle g = (r, g)
   framed_gives r (Tight k) g = (r, g)
+  framed_gives r Room g = elim g [ ]
+  framed_gives r Record g = elim g [ ]
+  framed_gives r Report g = elim g [ ]
+  framed_gives r Stray g = elim g [ ]
+  framed_gives r Size g = elim g [ ]
+  framed_gives r Version g = elim g [ ]
+  framed_gives r Dosing g = elim g [ ]
+  framed_gives r Spans g = elim g [ ]
 
   versioned_gives : Versioned s → SomeGives
   unfolding FileGives TableGives RowsGives table_from

@@ -1,0 +1,17 @@
+-- `reserve::sweep::alternates` meets its contract. The loop's invariant: the alternates of the places so far are copied.
+use mathlib.Core.Path.{◌≡◌, refl}
+use Prim.Native.Nat.{◌-◌}
+use lib.ListN.{length}
+use borrow.Author.Rules.{rules}
+use Rattle.table.proofs.Lists.{long}
+use Rattle.reserve.proofs.Alternates.{Copied, copied_start, copied_step, copied_end}
+use Rattle.reserve.proofs.sweep.alternates.Goals as goal
+
+pub loop-at-init : goal.loop-at-init
+loop-at-init c = (search (long), copied_start _ _ refl)
+
+pub loop-at-preserved : goal.loop-at-preserved
+loop-at-preserved c = (search rules, search (copied_step))
+
+pub returns : goal.returns
+returns c = search (copied_end)

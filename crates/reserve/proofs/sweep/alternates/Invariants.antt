@@ -1,0 +1,14 @@
+-- `reserve::sweep::alternates` meets its contract. The loop's invariant: the alternates of the places so far are copied.
+use mathlib.Core.Path.{◌≡◌, refl}
+use Prim.Native.Nat.{◌-◌}
+use lib.ListN.{length}
+use borrow.Author.Rules.{rules}
+use Rattle.table.proofs.Lists.{long}
+use Rattle.reserve.proofs.Alternates.{Copied, copied_start, copied_step, copied_end}
+use Rattle.reserve.proofs.sweep.alternates.Given as goal
+
+abbrev pub invariant-loop-at : goal.invariant-loop-at
+invariant-loop-at l = (length l.t.rows ≡ 16) × Copied l.t.rows l.left l.at
+
+abbrev pub decreases-loop-at : goal.decreases-loop-at
+decreases-loop-at l = 16 - l.at

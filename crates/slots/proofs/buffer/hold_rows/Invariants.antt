@@ -1,0 +1,12 @@
+-- `slots::buffer::hold_rows` meets its contract. The loop's invariant: the first i rows have reserved.
+use Prim.Native.Nat.{◌-◌}
+use borrow.Author.Rules.{rules}
+use Rattle.table.proofs.Lists.{long}
+use Rattle.slots.proofs.HeldRows.{HoldingRows, rows_start, rows_able, rows_step, rows_end}
+use Rattle.slots.proofs.buffer.hold_rows.Given as goal
+
+abbrev pub invariant-loop-i : goal.invariant-loop-i
+invariant-loop-i l = HoldingRows l.t (record { clock = l.clock; jobs = l.jobs }) l.until l.from l.initial.out l.out l.i
+
+abbrev pub decreases-loop-i : goal.decreases-loop-i
+decreases-loop-i l = l.t.n - l.i

@@ -1,0 +1,7 @@
+-- `slots::lost_fresh` meets its contract.
+use borrow.Author.Rules.{rules}
+use Rattle.slots.proofs.LostAnswers.{lost_start}
+use Rattle.slots.proofs.lost_fresh.Goals as goal
+
+pub returns : goal.returns
+returns c = search (lost_start)

@@ -1,0 +1,11 @@
+-- `slots::slot::left_units` meets its contract.
+use Prim.Native.Nat.{◌-◌}
+use borrow.Author.Rules.{rules}
+use Rattle.slots.proofs.EntryLoops.{Left, left_start, left_step, left_end}
+use Rattle.slots.proofs.slot.left_units.Given as goal
+
+abbrev pub invariant-loop-i : goal.invariant-loop-i
+invariant-loop-i l = Left l.jobs l.left l.i
+
+abbrev pub decreases-loop-i : goal.decreases-loop-i
+decreases-loop-i l = 16 - l.i

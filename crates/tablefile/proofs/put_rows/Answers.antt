@@ -1,0 +1,15 @@
+-- `tablefile::put_rows` meets its contract.
+use Prim.Native.Nat.{◌-◌}
+use Rattle.table.proofs.Lists.{long}
+use Rattle.tablefile.proofs.WriteCases.{Put, put_start, put_step, put_end}
+use borrow.Author.Rules.{rules}
+use Rattle.tablefile.proofs.put_rows.Goals as goal
+
+pub loop-i-init : goal.loop-i-init
+loop-i-init c = put_start _ _
+
+pub loop-i-preserved : goal.loop-i-preserved
+loop-i-preserved c = search (put_step, long)
+
+pub returns : goal.returns
+returns c = search (put_end)

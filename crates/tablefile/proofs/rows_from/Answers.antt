@@ -1,0 +1,14 @@
+-- `tablefile::rows_from` meets its contract.
+use Prim.Native.Nat.{◌-◌}
+use Rattle.tablefile.proofs.ReadCases.{Read, rows_start, rows_step, rows_end}
+use borrow.Author.Rules.{rules}
+use Rattle.tablefile.proofs.rows_from.Goals as goal
+
+pub loop-i-init : goal.loop-i-init
+loop-i-init c = search (rows_start)
+
+pub loop-i-preserved : goal.loop-i-preserved
+loop-i-preserved c = search (rows_step)
+
+pub returns : goal.returns
+returns c = search (rows_end)

@@ -1,0 +1,11 @@
+-- `tablefile::rows_from` meets its contract.
+use Prim.Native.Nat.{◌-◌}
+use Rattle.tablefile.proofs.ReadCases.{Read, rows_start, rows_step, rows_end}
+use borrow.Author.Rules.{rules}
+use Rattle.tablefile.proofs.rows_from.Given as goal
+
+abbrev pub invariant-loop-i : goal.invariant-loop-i
+invariant-loop-i l = Read l.s l.n l.i l.rows
+
+abbrev pub decreases-loop-i : goal.decreases-loop-i
+decreases-loop-i l = l.n - l.i
