@@ -1,0 +1,11 @@
+-- `bagreport::marks::clear` meets its contract. The loop's invariant: the bytes so far are 0, and the others are as they were.
+use Prim.Native.Nat.{◌-◌}
+use borrow.Author.Rules.{rules}
+use Rattle.bagreport.proofs.Marking.{Clearing, clearing_start, clearing_size, clearing_place, clearing_step, clearing_end}
+use Rattle.bagreport.proofs.marks.clear.Given as goal
+
+abbrev pub invariant-loop-i : goal.invariant-loop-i
+invariant-loop-i l = Clearing l.n l.initial.marks l.i l.marks
+
+abbrev pub decreases-loop-i : goal.decreases-loop-i
+decreases-loop-i l = l.n - l.i

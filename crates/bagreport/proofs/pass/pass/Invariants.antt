@@ -1,0 +1,13 @@
+-- `bagreport::pass::pass` meets its contract.
+use Prim.Native.Nat.{◌-◌}
+use native.Mathlib.Omega.{arith}
+use lib.ListN.{length}
+use borrow.Author.Rules.{rules}
+use Rattle.bagreport.proofs.Passing.{PassedTo, passed_start, passed_step, passed_refusal, passed_counts, passed_bags, stopped_never, stopped_refusal}
+use Rattle.bagreport.proofs.pass.pass.Given as goal
+
+abbrev pub invariant-loop-at : goal.invariant-loop-at
+invariant-loop-at l = PassedTo l.t l.reports l.place l.spans l.initial.marks l.at l.q l.tale l.marks l.log l.buffer
+
+abbrev pub decreases-loop-at : goal.decreases-loop-at
+decreases-loop-at l = length l.reports - l.at

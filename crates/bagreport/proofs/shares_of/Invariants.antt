@@ -1,0 +1,12 @@
+-- `bagreport::shares_of` meets its contract.
+use Prim.Native.Nat.{◌-◌}
+use native.Mathlib.Omega.{arith}
+use borrow.Author.Rules.{rules}
+use Rattle.bagreport.proofs.SharesFilled.{Filled, place_parts, place_few, filled_start, filled_step, filled_end}
+use Rattle.bagreport.proofs.shares_of.Given as goal
+
+abbrev pub invariant-loop-i : goal.invariant-loop-i
+invariant-loop-i l = Filled l.counts l.shares l.i
+
+abbrev pub decreases-loop-i : goal.decreases-loop-i
+decreases-loop-i l = 16 - l.i

@@ -1,0 +1,7 @@
+-- `plan::main` meets its contract.
+use Rattle.tablefile.proofs.RoundTrips.{was_read}
+use borrow.Author.Rules.{rules}
+use Rattle.plan.proofs.main.Goals as goal
+
+pub print_plan-requires : goal.print_plan-requires
+print_plan-requires c = search (was_read)

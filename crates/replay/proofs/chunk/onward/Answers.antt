@@ -1,0 +1,19 @@
+-- `replay::chunk::onward` meets its contract.
+use Rattle.replay.proofs.ChunkCases.{slots_room, lost_room, onward_none, log_none, onward_refused, log_refused}
+use borrow.Author.Rules.{rules}
+use Rattle.replay.proofs.chunk.onward.Goals as goal
+
+pub moved-requires : goal.moved-requires
+moved-requires c = (search (slots_room), search (lost_room))
+
+pub returns-in-None-clause-answer : goal.returns-in-None-clause-answer
+returns-in-None-clause-answer c = search (onward_none)
+
+pub returns-in-None-clause-bytes : goal.returns-in-None-clause-bytes
+returns-in-None-clause-bytes c = search (log_none)
+
+pub returns-in_default-clause-answer : goal.returns-in_default-clause-answer
+returns-in_default-clause-answer c = search (onward_refused, c.in_default.not-None)
+
+pub returns-in_default-clause-bytes : goal.returns-in_default-clause-bytes
+returns-in_default-clause-bytes c = search (log_refused, c.in_default.not-None)

@@ -1,0 +1,10 @@
+-- `replay::ending::put_outcome` meets its contract.
+use Rattle.replay.proofs.EndLines.{ran_laid, refused_laid}
+use borrow.Author.Rules.{rules}
+use Rattle.replay.proofs.ending.put_outcome.Goals as goal
+
+pub returns-in-None-clause-text : goal.returns-in-None-clause-text
+returns-in-None-clause-text c = search (ran_laid)
+
+pub returns-in_default-clause-text : goal.returns-in_default-clause-text
+returns-in_default-clause-text c = search (refused_laid, c.in_default.not-None)

@@ -1,0 +1,11 @@
+-- `replay::ending::put_rows` meets its contract.
+use Prim.Native.Nat.{◌-◌}
+use Rattle.replay.proofs.EndLines.{Rowed, rowed_start, rowed_step, rowed_end}
+use borrow.Author.Rules.{rules}
+use Rattle.replay.proofs.ending.put_rows.Given as goal
+
+abbrev pub invariant-loop-i : goal.invariant-loop-i
+invariant-loop-i l = Rowed l.initial.out l.from l.jobs l.n l.out l.at l.i
+
+abbrev pub decreases-loop-i : goal.decreases-loop-i
+decreases-loop-i l = l.n - l.i

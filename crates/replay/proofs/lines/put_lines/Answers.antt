@@ -1,0 +1,15 @@
+-- `replay::lines::put_lines` meets its contract.
+use Prim.Native.Nat.{◌-◌}
+use lib.ListN.{length}
+use Rattle.replay.proofs.SlotLines.{Lined, lined_start, lined_step, lined_end}
+use borrow.Author.Rules.{rules}
+use Rattle.replay.proofs.lines.put_lines.Goals as goal
+
+pub loop-i-init : goal.loop-i-init
+loop-i-init c = lined_start _ _ _
+
+pub loop-i-preserved : goal.loop-i-preserved
+loop-i-preserved c = search (lined_step)
+
+pub returns : goal.returns
+returns c = search (lined_end)

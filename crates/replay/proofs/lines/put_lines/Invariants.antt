@@ -1,0 +1,12 @@
+-- `replay::lines::put_lines` meets its contract.
+use Prim.Native.Nat.{◌-◌}
+use lib.ListN.{length}
+use Rattle.replay.proofs.SlotLines.{Lined, lined_start, lined_step, lined_end}
+use borrow.Author.Rules.{rules}
+use Rattle.replay.proofs.lines.put_lines.Given as goal
+
+abbrev pub invariant-loop-i : goal.invariant-loop-i
+invariant-loop-i l = Lined l.initial.out l.first l.log l.out l.at l.i
+
+abbrev pub decreases-loop-i : goal.decreases-loop-i
+decreases-loop-i l = length l.log - l.i
