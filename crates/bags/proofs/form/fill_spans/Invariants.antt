@@ -1,0 +1,11 @@
+-- `bags::form::fill_spans` meets its contract.
+use Prim.Native.Nat.{◌-◌}
+use Rattle.bags.proofs.Orders.{Filled, filled_start, filled_step, filled_end}
+use borrow.Author.Rules.{rules}
+use Rattle.bags.proofs.form.fill_spans.Given as goal
+
+abbrev pub invariant-loop-i : goal.invariant-loop-i
+invariant-loop-i l = Filled l.s l.n l.initial.spans l.spans l.i
+
+abbrev pub decreases-loop-i : goal.decreases-loop-i
+decreases-loop-i l = l.n - l.i

@@ -1,0 +1,10 @@
+-- `bench::bags::figure` meets its contract.
+use borrow.Author.Rules.{rules}
+use Rattle.bench.proofs.BagFigures.{figure_share, figure_refusal}
+use Rattle.bench.proofs.bags.figure.Goals as goal
+
+pub returns-then-i-lt16 : goal.returns-then-i-lt16
+returns-then-i-lt16 c = search (figure_share)
+
+pub returns-else-i-lt16 : goal.returns-else-i-lt16
+returns-else-i-lt16 c = search (figure_refusal)
