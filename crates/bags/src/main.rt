@@ -16,6 +16,7 @@ mod lines;
 
 // The descriptors that a process is started with.
 const STDIN_FILENO: i32 = 0;
+
 pub(crate) const STDOUT_FILENO: i32 = 1;
 
 // 'refused 15 row 0'

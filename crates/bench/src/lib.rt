@@ -59,13 +59,7 @@ fn figure(ran: Ran, i: usize) -> u64
 }
 
 // A run, and one figure of its answer.
-pub fn bench_run(
-    file: &[u8],
-    reports: &[u8],
-    log: &mut [u8],
-    buffer: &mut [u8],
-    i: usize,
-) -> u64
+pub fn bench_run(file: &[u8], reports: &[u8], log: &mut [u8], buffer: &mut [u8], i: usize) -> u64
     ensures figure { result ≡ figure_of (list_ran file.now reports.now log.old buffer.old) i }
     ensures bytes { log.new ≡ list_log file.now reports.now log.old buffer.old }
     ensures buffer { buffer.new ≡ list_buffer file.now reports.now log.old buffer.old }

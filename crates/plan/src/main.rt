@@ -14,6 +14,7 @@ use table::Table;
 
 // The descriptors that a process is started with.
 const STDIN_FILENO: i32 = 0;
+
 const STDOUT_FILENO: i32 = 1;
 
 // A row, one of its jobs and the job's first slot.

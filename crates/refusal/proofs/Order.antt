@@ -1,18 +1,14 @@
 -- Refusals one after another: which of two is given, and what an acceptance says of both.
 -- Assumes nothing.
-use mathlib.Core.Path.{◌≡◌, refl, ap, ◌∙◌, subst}
+use mathlib.Core.Path.{◌≡◌, refl, ap, ◌∙◌}
 use mathlib.Core.Bool.{Bool, true, false, cond}
-use mathlib.Core.List.{List, [], ◌∷◌}
 use Prim.Native.Nat.{ℕ, ◌<◌}
 use native.Mathlib.Omega.{arith}
 use borrow.Author.Tests.{eqb-true}
-use types.Run.{OneOf, miss}
-use denote.Enum.Declared.{tag_of}
 use Rattle.refusal.specs.declared.Refusal.{Refusal}
 use Rattle.refusal.specs.declared.Refusal.TheVariants.{None, Empty, Many, Zero, Long, Order, Cycle, Tight, Room, Record, Report, Stray, Size, Version, Dosing, Spans}
 use Rattle.refusal.specs.Numbers.{number_of}
 use Rattle.refusal.specs.Order.{accepted, given, or_else, beside}
-use Rattle.refusal.specs.contracts.Refusal.{the_type}
 
 -- ---- only None is accepted
 number_none : (f : Refusal) → number_of f ≡ 0 → f ≡ None

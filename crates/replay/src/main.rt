@@ -21,6 +21,7 @@ mod text;
 
 // The descriptors that a process is started with.
 const STDIN_FILENO: i32 = 0;
+
 const STDOUT_FILENO: i32 = 1;
 
 // What the reports so far have come to: the refusal that stopped them, the slots accepted, the lost units, 0 beside a refusal, and the record after those slots.

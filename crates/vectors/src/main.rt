@@ -3,13 +3,13 @@
 
 ghost use Rattle.std.specs.Prelude.{◌≤◌, length};
 
-
 mod called;
 mod form;
 mod print;
 
 // The descriptors that a process is started with.
 const STDIN_FILENO: i32 = 0;
+
 pub(crate) const STDOUT_FILENO: i32 = 1;
 
 // Reads so many bytes of the input to the start of a buffer, and answers how many there were.

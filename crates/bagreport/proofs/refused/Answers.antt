@@ -1,5 +1,4 @@
 -- `bagreport::refused` meets its contract.
-use borrow.Author.Rules.{rules}
 use Rattle.bagreport.proofs.SharesFilled.{refused_is}
 use Rattle.bagreport.proofs.refused.Goals as goal
 

@@ -2,7 +2,6 @@
 use native.Mathlib.Omega.{arith}
 use Rattle.bags.proofs.Parts.{part_is, part_few}
 use Rattle.tablefile.proofs.RoundTrips.{was_read}
-use borrow.Author.Rules.{rules}
 use Rattle.bags.proofs.answer.Goals as goal
 
 pub slice_bounds-report_on-end-in-None : goal.slice_bounds-report_on-end-in-None

@@ -1,7 +1,6 @@
 -- `bags::report_on` meets its contract.
 use native.Mathlib.Omega.{arith}
 use Rattle.bags.proofs.Parts.{part_is, part_half, rows_few}
-use borrow.Author.Rules.{rules}
 use Rattle.bags.proofs.report_on.Goals as goal
 
 pub slice_bounds-print_report-end : goal.slice_bounds-print_report-end

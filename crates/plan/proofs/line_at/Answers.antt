@@ -1,9 +1,7 @@
 -- `plan::line_at` meets its contract.
-use Prim.Native.Nat.{◌-◌}
-use native.Mathlib.Omega.{arith}
 use Rattle.table.proofs.Lists.{long}
 use Rattle.reserve.proofs.Ready.{period_some}
-use Rattle.plan.proofs.PrintedLines.{Looking, jobs_fit_word, job_fits_word, place_fits_word, look_start, look_on, look_room, look_found, look_end}
+use Rattle.plan.proofs.PrintedLines.{jobs_fit_word, job_fits_word, look_start, look_on, look_room, look_found, look_end}
 use borrow.Author.Rules.{rules}
 use Rattle.plan.proofs.line_at.Goals as goal
 

@@ -1,6 +1,5 @@
 -- `plan::main` meets its contract.
 use Rattle.tablefile.proofs.RoundTrips.{was_read}
-use borrow.Author.Rules.{rules}
 use Rattle.plan.proofs.main.Goals as goal
 
 pub print_plan-requires : goal.print_plan-requires

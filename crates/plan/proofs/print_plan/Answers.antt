@@ -1,6 +1,5 @@
 -- `plan::print_plan` meets its contract.
 use Rattle.plan.proofs.Accepted.{ready, begins, counted}
-use borrow.Author.Rules.{rules}
 use Rattle.plan.proofs.print_plan.Goals as goal
 
 pub print_lines-requires : goal.print_lines-requires

@@ -1,7 +1,6 @@
 -- `replay::length_field` meets its contract.
 use native.Mathlib.Omega.{arith}
 use Rattle.replay.proofs.Replaying.{field_is}
-use borrow.Author.Rules.{rules}
 use Rattle.replay.proofs.length_field.Goals as goal
 
 pub returns : goal.returns

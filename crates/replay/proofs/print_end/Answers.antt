@@ -2,7 +2,6 @@
 use native.Mathlib.Omega.{arith}
 use Rattle.reserve.proofs.Verdict.{table_accepted}
 use Rattle.replay.proofs.Laying.{laid_part}
-use borrow.Author.Rules.{rules}
 use Rattle.replay.proofs.print_end.Goals as goal
 
 pub put_end-n-requires : goal.put_end-n-requires

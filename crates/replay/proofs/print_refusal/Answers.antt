@@ -1,6 +1,5 @@
 -- `replay::print_refusal` meets its contract.
 use Rattle.replay.proofs.Laying.{laid_part}
-use borrow.Author.Rules.{rules}
 use Rattle.replay.proofs.print_refusal.Goals as goal
 
 pub slice_bounds-write_all-end : goal.slice_bounds-write_all-end

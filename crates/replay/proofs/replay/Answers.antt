@@ -1,8 +1,7 @@
 -- `replay::replay` meets its contract.
 use mathlib.Core.Path.{refl, sym}
 use Rattle.replay.proofs.Laying.{laid_part}
-use Rattle.replay.proofs.Replaying.{Replaying, replaying_start, replaying_now, replaying_end, chunk_few, replaying_step}
-use borrow.Author.Rules.{rules}
+use Rattle.replay.proofs.Replaying.{replaying_start, replaying_now, replaying_end, chunk_few, replaying_step}
 use Rattle.replay.proofs.replay.Goals as goal
 
 pub loop-chunks-init : goal.loop-chunks-init

@@ -1,6 +1,5 @@
 -- `replay::start` meets its contract.
 use Rattle.replay.proofs.Chunks.{start_is}
-use borrow.Author.Rules.{rules}
 use Rattle.replay.proofs.start.Goals as goal
 
 pub returns : goal.returns

@@ -1,5 +1,4 @@
 -- `reserve::check` meets its contract.
-use borrow.Author.Rules.{rules}
 use Rattle.reserve.proofs.Verdict.{rows_ready, check_refused, check_none, check_tight}
 use Rattle.reserve.proofs.check.Goals as goal
 

@@ -1,5 +1,4 @@
 -- `slots::fresh` meets its contract.
-use borrow.Author.Rules.{rules}
 use Rattle.slots.proofs.AnswerCases.{fresh_few, fresh_none, fresh_refused}
 use Rattle.slots.proofs.fresh.Goals as goal
 

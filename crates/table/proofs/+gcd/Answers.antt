@@ -1,7 +1,6 @@
 -- `table::gcd` is Euclid's rule. It calls itself with the second number falling, which is the measure.
-use mathlib.Core.Path.{◌≡◌, sym, ap, ◌∙◌}
-use Prim.Native.Nat.{ℕ, ◌<◌}
-use native.Mathlib.Nat.{mod-lt}
+use mathlib.Core.Path.{sym, ap, ◌∙◌}
+use Prim.Native.Nat.{◌<◌}
 use native.Mathlib.Omega.{arith}
 use Rattle.table.specs.Gcd.{gcd_of}
 use Rattle.table.proofs.Euclid.{gcd_none, gcd_step}

@@ -1,6 +1,5 @@
 -- `tablefile::byte` meets its contract.
 use Rattle.tablefile.proofs.ReadCases.{byte_past}
-use borrow.Author.Rules.{rules}
 use Rattle.tablefile.proofs.byte.Goals as goal
 
 pub returns-else-at-s : goal.returns-else-at-s

@@ -1,6 +1,5 @@
 -- `tablefile::head` meets its contract.
 use Rattle.tablefile.proofs.HeadCases.{head_under, head_differs, head_version, head_empty, head_many, head_size, head_none}
-use borrow.Author.Rules.{rules}
 use Rattle.tablefile.proofs.head.Goals as goal
 
 pub returns-then-have-lt4 : goal.returns-then-have-lt4

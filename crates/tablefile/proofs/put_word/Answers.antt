@@ -2,7 +2,6 @@
 use native.Mathlib.Omega.{arith}
 use lib.ListN.{length-set}
 use Rattle.tablefile.proofs.WriteCases.{word_put}
-use borrow.Author.Rules.{rules}
 use Rattle.tablefile.proofs.put_word.Goals as goal
 
 pub bounds-out-at-2 : goal.bounds-out-at-2

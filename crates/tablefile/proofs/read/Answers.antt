@@ -1,6 +1,5 @@
 -- `tablefile::read` meets its contract.
 use Rattle.tablefile.proofs.ReadCases.{read_refused, read_few, read_judged}
-use borrow.Author.Rules.{rules}
 use Rattle.tablefile.proofs.read.Goals as goal
 
 pub rows_from-rows-requires : goal.rows_from-rows-requires

@@ -1,6 +1,5 @@
 -- `tablefile::row_from` meets its contract.
 use Rattle.tablefile.proofs.ReadCases.{row_by}
-use borrow.Author.Rules.{rules}
 use Rattle.tablefile.proofs.row_from.Goals as goal
 
 pub returns : goal.returns

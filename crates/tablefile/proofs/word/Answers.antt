@@ -1,6 +1,5 @@
 -- `tablefile::word` meets its contract.
 use Rattle.tablefile.proofs.ReadCases.{word_by}
-use borrow.Author.Rules.{rules}
 use Rattle.tablefile.proofs.word.Goals as goal
 
 pub returns : goal.returns

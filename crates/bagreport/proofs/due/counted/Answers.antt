@@ -1,5 +1,4 @@
 -- `bagreport::due::counted` meets its contract.
-use borrow.Author.Rules.{rules}
 use Rattle.bagreport.proofs.Closing.{one_fits, counted_is}
 use Rattle.bagreport.proofs.due.counted.Goals as goal
 

@@ -1,5 +1,4 @@
 -- `bagreport::due::counts_at` meets its contract.
-use borrow.Author.Rules.{rules}
 use Rattle.bagreport.proofs.Closing.{count_ends, count_stays}
 use Rattle.bagreport.proofs.due.counts_at.Goals as goal
 

@@ -1,5 +1,4 @@
 -- `bagreport::due::open_at` meets its contract.
-use borrow.Author.Rules.{rules}
 use Rattle.bagreport.proofs.Closing.{open_new, open_stays}
 use Rattle.bagreport.proofs.due.open_at.Goals as goal
 

@@ -1,5 +1,4 @@
 -- `bagreport::due::starts_at` meets its contract.
-use borrow.Author.Rules.{rules}
 use Rattle.bagreport.proofs.Closing.{rest_starts}
 use Rattle.bagreport.proofs.due.starts_at.Goals as goal
 

@@ -1,5 +1,4 @@
 -- `bagreport::due::to_end` meets its contract.
-use borrow.Author.Rules.{rules}
 use Rattle.bagreport.proofs.NearestEnd.{rest_fits, rest_within, end_far, end_ahead}
 use Rattle.bagreport.proofs.due.to_end.Goals as goal
 

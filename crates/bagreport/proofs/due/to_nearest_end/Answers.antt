@@ -1,8 +1,6 @@
 -- `bagreport::due::to_nearest_end` meets its contract.
-use Prim.Native.Nat.{◌-◌}
-use borrow.Author.Rules.{rules}
 use Rattle.table.proofs.Lists.{long}
-use Rattle.bagreport.proofs.NearestEnd.{Nearing, nearing_period, nearing_start, nearing_next, nearing_step, nearing_stay, nearing_end}
+use Rattle.bagreport.proofs.NearestEnd.{nearing_period, nearing_start, nearing_next, nearing_step, nearing_stay, nearing_end}
 use Rattle.bagreport.proofs.due.to_nearest_end.Goals as goal
 use Rattle.bagreport.proofs.due.to_nearest_end.Goals.{then-d-nearest, else-d-nearest}
 

@@ -1,6 +1,5 @@
 -- `bagreport::marks::mark_job` meets its contract.
 use mathlib.Core.Path.{refl}
-use borrow.Author.Rules.{rules}
 use Rattle.bagreport.proofs.Marking.{mark_put, mark_kept, mark_none}
 use Rattle.bagreport.proofs.marks.mark_job.Goals as goal
 

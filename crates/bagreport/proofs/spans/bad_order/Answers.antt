@@ -1,5 +1,4 @@
 -- `bagreport::spans::bad_order` meets its contract.
-use borrow.Author.Rules.{rules}
 use Rattle.bagreport.proofs.SpanOrder.{or_given, or_not}
 use Rattle.bagreport.proofs.spans.bad_order.Goals as goal
 

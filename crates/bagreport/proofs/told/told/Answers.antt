@@ -1,5 +1,4 @@
 -- `bagreport::told::told` meets its contract.
-use borrow.Author.Rules.{rules}
 use Rattle.bagreport.proofs.ToldCases.{told_idle, told_primary, told_alternate}
 use Rattle.bagreport.proofs.told.told.Goals as goal
 

@@ -1,6 +1,5 @@
 -- `bags::form::byte` meets its contract.
 use Rattle.bags.proofs.Orders.{byte_past}
-use borrow.Author.Rules.{rules}
 use Rattle.bags.proofs.form.byte.Goals as goal
 
 pub returns-else-at-s : goal.returns-else-at-s

@@ -1,6 +1,5 @@
 -- `bags::form::long` meets its contract.
 use Rattle.bags.proofs.Orders.{long_by}
-use borrow.Author.Rules.{rules}
 use Rattle.bags.proofs.form.long.Goals as goal
 
 pub returns : goal.returns

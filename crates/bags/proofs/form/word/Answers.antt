@@ -1,7 +1,6 @@
 -- `bags::form::word` meets its contract.
 use native.Mathlib.Omega.{arith}
 use Rattle.bags.proofs.Orders.{word_by}
-use borrow.Author.Rules.{rules}
 use Rattle.bags.proofs.form.word.Goals as goal
 
 pub returns : goal.returns

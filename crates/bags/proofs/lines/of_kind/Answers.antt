@@ -1,8 +1,5 @@
 -- `bags::lines::of_kind` meets its contract.
-use Prim.Native.Nat.{◌-◌}
-use lib.ListN.{length}
-use Rattle.bags.proofs.Figures.{Counted, counted_start, counted_step, counted_end, counted_few}
-use borrow.Author.Rules.{rules}
+use Rattle.bags.proofs.Figures.{counted_start, counted_step, counted_end, counted_few}
 use Rattle.bags.proofs.lines.of_kind.Goals as goal
 
 pub loop-i-init : goal.loop-i-init

@@ -1,8 +1,7 @@
 -- `bags::lines::of_kind` meets its contract.
 use Prim.Native.Nat.{◌-◌}
 use lib.ListN.{length}
-use Rattle.bags.proofs.Figures.{Counted, counted_start, counted_step, counted_end, counted_few}
-use borrow.Author.Rules.{rules}
+use Rattle.bags.proofs.Figures.{Counted}
 use Rattle.bags.proofs.lines.of_kind.Given as goal
 
 abbrev pub invariant-loop-i : goal.invariant-loop-i

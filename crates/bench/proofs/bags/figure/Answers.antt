@@ -1,5 +1,4 @@
 -- `bench::bags::figure` meets its contract.
-use borrow.Author.Rules.{rules}
 use Rattle.bench.proofs.BagFigures.{figure_share, figure_refusal}
 use Rattle.bench.proofs.bags.figure.Goals as goal
 

@@ -1,7 +1,6 @@
 -- `replay::ending::put_cause` meets its contract.
 use Rattle.replay.proofs.Laying.{laid_then}
 use Rattle.replay.proofs.EndLines.{cause_laid}
-use borrow.Author.Rules.{rules}
 use Rattle.replay.proofs.ending.put_cause.Goals as goal
 
 pub returns-clause-text : goal.returns-clause-text

@@ -1,7 +1,6 @@
 -- `replay::ending::put_clock` meets its contract.
 use Rattle.replay.specs.Lines.{clock_line}
 use Rattle.replay.proofs.Laying.{laid_then}
-use borrow.Author.Rules.{rules}
 use Rattle.replay.proofs.ending.put_clock.Goals as goal
 
 pub returns-clause-text : goal.returns-clause-text

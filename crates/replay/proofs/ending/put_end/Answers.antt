@@ -1,7 +1,6 @@
 -- `replay::ending::put_end` meets its contract.
 use Rattle.replay.specs.Lines.{end_lines}
 use Rattle.replay.proofs.Laying.{laid_then}
-use borrow.Author.Rules.{rules}
 use Rattle.replay.proofs.ending.put_end.Goals as goal
 
 pub returns : goal.returns

@@ -1,6 +1,5 @@
 -- `replay::ending::put_outcome` meets its contract.
 use Rattle.replay.proofs.EndLines.{ran_laid, refused_laid}
-use borrow.Author.Rules.{rules}
 use Rattle.replay.proofs.ending.put_outcome.Goals as goal
 
 pub returns-in-None-clause-text : goal.returns-in-None-clause-text

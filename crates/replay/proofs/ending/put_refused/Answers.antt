@@ -1,7 +1,6 @@
 -- `replay::ending::put_refused` meets its contract.
 use Rattle.replay.specs.Lines.{refused_line}
 use Rattle.replay.proofs.Laying.{laid_then}
-use borrow.Author.Rules.{rules}
 use Rattle.replay.proofs.ending.put_refused.Goals as goal
 
 pub returns-clause-text : goal.returns-clause-text

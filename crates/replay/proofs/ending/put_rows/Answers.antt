@@ -1,6 +1,5 @@
 -- `replay::ending::put_rows` meets its contract.
-use Prim.Native.Nat.{◌-◌}
-use Rattle.replay.proofs.EndLines.{Rowed, rowed_start, rowed_step, rowed_end}
+use Rattle.replay.proofs.EndLines.{rowed_start, rowed_step, rowed_end}
 use borrow.Author.Rules.{rules}
 use Rattle.replay.proofs.ending.put_rows.Goals as goal
 

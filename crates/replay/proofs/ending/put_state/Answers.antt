@@ -1,6 +1,5 @@
 -- `replay::ending::put_state` meets its contract.
 use Rattle.replay.proofs.EndLines.{waiting_laid, failed_laid, done_laid}
-use borrow.Author.Rules.{rules}
 use Rattle.replay.proofs.ending.put_state.Goals as goal
 
 pub returns-in-Waiting-clause-text : goal.returns-in-Waiting-clause-text

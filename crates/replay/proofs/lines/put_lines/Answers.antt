@@ -1,8 +1,5 @@
 -- `replay::lines::put_lines` meets its contract.
-use Prim.Native.Nat.{◌-◌}
-use lib.ListN.{length}
-use Rattle.replay.proofs.SlotLines.{Lined, lined_start, lined_step, lined_end}
-use borrow.Author.Rules.{rules}
+use Rattle.replay.proofs.SlotLines.{lined_start, lined_step, lined_end}
 use Rattle.replay.proofs.lines.put_lines.Goals as goal
 
 pub loop-i-init : goal.loop-i-init

@@ -1,8 +1,7 @@
 -- `replay::lines::put_lines` meets its contract.
 use Prim.Native.Nat.{◌-◌}
 use lib.ListN.{length}
-use Rattle.replay.proofs.SlotLines.{Lined, lined_start, lined_step, lined_end}
-use borrow.Author.Rules.{rules}
+use Rattle.replay.proofs.SlotLines.{Lined}
 use Rattle.replay.proofs.lines.put_lines.Given as goal
 
 abbrev pub invariant-loop-i : goal.invariant-loop-i

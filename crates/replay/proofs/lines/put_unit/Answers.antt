@@ -1,6 +1,5 @@
 -- `replay::lines::put_unit` meets its contract.
 use Rattle.replay.proofs.Laying.{laid_then}
-use borrow.Author.Rules.{rules}
 use Rattle.replay.proofs.lines.put_unit.Goals as goal
 
 pub returns-clause-text : goal.returns-clause-text

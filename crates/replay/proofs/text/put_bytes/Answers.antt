@@ -1,7 +1,5 @@
 -- `replay::text::put_bytes` meets its contract.
-use Prim.Native.Nat.{◌-◌}
-use lib.ListN.{length}
-use Rattle.replay.proofs.Laying.{Copied, copied_start, copied_step, copied_end}
+use Rattle.replay.proofs.Laying.{copied_start, copied_step, copied_end}
 use borrow.Author.Rules.{rules}
 use Rattle.replay.proofs.text.put_bytes.Goals as goal
 

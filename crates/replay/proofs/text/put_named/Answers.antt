@@ -1,6 +1,5 @@
 -- `replay::text::put_named` meets its contract.
 use Rattle.replay.proofs.Laying.{laid_then}
-use borrow.Author.Rules.{rules}
 use Rattle.replay.proofs.text.put_named.Goals as goal
 
 pub returns-clause-text : goal.returns-clause-text

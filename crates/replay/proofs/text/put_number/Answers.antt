@@ -1,7 +1,6 @@
 -- `replay::text::put_number` meets its contract.
 use native.Mathlib.Omega.{arith}
 use Rattle.replay.proofs.Decimals.{digits_few, number_laid, number_short}
-use borrow.Author.Rules.{rules}
 use Rattle.replay.proofs.text.put_number.Goals as goal
 
 pub put_bytes-requires : goal.put_bytes-requires

@@ -1,7 +1,6 @@
 -- `reserve::scan::job_first` meets its contract: the window is within the cycle, and the list tells its holder.
 use mathlib.Core.Path.{refl}
 use native.Mathlib.Omega.{arith}
-use borrow.Author.Rules.{rules}
 use Rattle.table.proofs.Lists.{long}
 use Rattle.reserve.proofs.Ready.{few, cycle_fits}
 use Rattle.reserve.proofs.Scanning.{window_fits, job_first}

@@ -1,6 +1,5 @@
 -- `reserve::scan::row_jobs` meets its contract.
 use native.Mathlib.Omega.{arith}
-use borrow.Author.Rules.{rules}
 use Rattle.table.proofs.Lists.{long}
 use Rattle.reserve.proofs.Ready.{few, period_some}
 use Rattle.reserve.proofs.Scanning.{jobs_are}

@@ -1,5 +1,4 @@
 -- `reserve::sweep::arrived` meets its contract.
-use borrow.Author.Rules.{rules}
 use Rattle.reserve.proofs.Turn.{arrived_last, arrived_on}
 use Rattle.reserve.proofs.sweep.arrived.Goals as goal
 

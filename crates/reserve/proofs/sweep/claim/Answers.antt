@@ -1,5 +1,4 @@
 -- `reserve::sweep::claim` meets its contract.
-use borrow.Author.Rules.{rules}
 use Rattle.reserve.proofs.Turn.{claim_left, claim_whole}
 use Rattle.reserve.proofs.sweep.claim.Goals as goal
 

@@ -1,9 +1,8 @@
 -- `reserve::sweep::down` meets its contract. The loop's invariant: the rests are ready for the next slot down, and the holder of the slot passed last and the lowest row
 -- that is short so far are found.
 use native.Mathlib.Omega.{arith}
-use borrow.Author.Rules.{rules}
 use Rattle.reserve.proofs.Down.{next_slot, next_turn, found_start, found_turn}
-use Rattle.reserve.proofs.Sweeps.{Sweeping, Finding, sweep_start, down_end}
+use Rattle.reserve.proofs.Sweeps.{sweep_start, down_end}
 use Rattle.reserve.proofs.sweep.down.Goals as goal
 
 pub loop-s-init : goal.loop-s-init
@@ -15,9 +14,9 @@ pass-now-requires c = let inv = c.loop-s.invariant in
 
 pub loop-s-preserved : goal.loop-s-preserved
 loop-s-preserved c = let inv = c.loop-s.invariant in (
-      next_turn _ _ _ _ inv.0 (omega (arith, c.loop-s-test.true)) c.pass-now.ensures,
-      found_turn _ _ _ _ inv.0.within c.loop-s-test.true inv.1 c.pass-now.ensures c.lower-short.ensures,
-    )
+  next_turn _ _ _ _ inv.0 (omega (arith, c.loop-s-test.true)) c.pass-now.ensures,
+  found_turn _ _ _ _ inv.0.within c.loop-s-test.true inv.1 c.pass-now.ensures c.lower-short.ensures,
+)
 
 pub returns : goal.returns
 returns c = down_end c.requires c.loop-s-test.false _ c.loop-s.invariant.0 c.loop-s.invariant.1

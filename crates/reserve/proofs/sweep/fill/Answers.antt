@@ -1,8 +1,7 @@
 -- `reserve::sweep::fill` meets its contract. The loop's invariant: the rests are ready for the next slot down, and the slots passed have their holders' bytes.
 use native.Mathlib.Omega.{arith}
-use borrow.Author.Rules.{rules}
 use Rattle.reserve.proofs.Down.{next_slot, next_turn, filled_start, filled_turn}
-use Rattle.reserve.proofs.Sweeps.{Sweeping, Filling, sweep_start, fill_end}
+use Rattle.reserve.proofs.Sweeps.{sweep_start, fill_end}
 use Rattle.reserve.proofs.sweep.fill.Goals as goal
 
 pub loop-s-init : goal.loop-s-init
@@ -17,9 +16,9 @@ bounds-out-s c = omega (arith, c.loop-s.invariant.0.within, c.loop-s.invariant.1
 
 pub loop-s-preserved : goal.loop-s-preserved
 loop-s-preserved c = let inv = c.loop-s.invariant in (
-      next_turn _ _ _ _ inv.0 c.loop-s-test.true c.pass-now.ensures,
-      filled_turn _ _ _ _ inv.1 inv.0.within c.loop-s-test.true c.requires.1 c.pass-now.ensures,
-    )
+  next_turn _ _ _ _ inv.0 c.loop-s-test.true c.pass-now.ensures,
+  filled_turn _ _ _ _ inv.1 inv.0.within c.loop-s-test.true c.requires.1 c.pass-now.ensures,
+)
 
 pub shape_of-out : goal.shape_of-out
 shape_of-out c = c.loop-s.invariant.1.size

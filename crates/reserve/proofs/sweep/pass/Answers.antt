@@ -1,13 +1,12 @@
 -- `reserve::sweep::pass` meets its contract. The loop's invariant: the rows so far have had their turn.
-use Prim.Native.Nat.{◌-◌, ◌≤◌}
-use mathlib.Core.Path.{◌≡◌, refl}
+use mathlib.Core.Path.{refl}
 use native.Mathlib.Omega.{arith}
-use lib.ListN.{length, length-set}
+use lib.ListN.{length-set}
 use borrow.Author.Rules.{rules}
 use Rattle.table.proofs.Lists.{long}
 use Rattle.reserve.proofs.Ready.{few, period_some}
 use Rattle.reserve.proofs.Turn.{turn_start}
-use Rattle.reserve.proofs.Pass.{Turn, pass_step, pass_end}
+use Rattle.reserve.proofs.Pass.{pass_step, pass_end}
 use Rattle.reserve.proofs.sweep.pass.Goals as goal
 
 pub loop-i-init : goal.loop-i-init
@@ -21,13 +20,13 @@ short_here-requires c = search (period_some)
 
 pub loop-i-preserved : goal.loop-i-preserved
 loop-i-preserved c = let inv = c.loop-i.invariant in (
-      omega arith,
-      search rules,
-      inv.2,
-      simp length-set (search rules),
-      pass_step c.requires.0 inv.2 c.requires.1 c.loop-i-test.true inv.3 _ c.args.rests inv.4 c.requires.3
-          c.arrived-x.ensures c.spent-y.ensures c.picked-holder.ensures c.short_here.ensures c.picked-short.ensures,
-    )
+  omega arith,
+  search rules,
+  inv.2,
+  simp length-set (search rules),
+  pass_step c.requires.0 inv.2 c.requires.1 c.loop-i-test.true inv.3 _ c.args.rests inv.4 c.requires.3
+      c.arrived-x.ensures c.spent-y.ensures c.picked-holder.ensures c.short_here.ensures c.picked-short.ensures,
+)
 
 pub returns : goal.returns
 returns c = search (pass_end)

@@ -1,5 +1,4 @@
 -- `reserve::sweep::short_here` meets its contract.
-use borrow.Author.Rules.{rules}
 use Rattle.reserve.proofs.Turn.{short_clock, short_start, short_on}
 use Rattle.reserve.proofs.sweep.short_here.Goals as goal
 

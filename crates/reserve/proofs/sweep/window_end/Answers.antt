@@ -1,7 +1,6 @@
 -- `reserve::sweep::window_end` meets its contract: the end is at most a period after the slot, so it fits.
 use native.Mathlib.Nat.{div-le_self, div-mul-le_self}
 use native.Mathlib.Omega.{arith}
-use borrow.Author.Rules.{rules}
 use mathlib.Core.Path.{refl}
 use Rattle.table.specs.Windows.{window_end}
 use Rattle.reserve.proofs.sweep.window_end.Goals as goal

@@ -1,5 +1,4 @@
 -- `slots::Record::lost` meets its contract.
-use borrow.Author.Rules.{rules}
 use Rattle.slots.proofs.Admittance.{admitted_steady}
 use Rattle.slots.proofs.LostAnswers.{lost_refused}
 use Rattle.slots.proofs.Record.lost.Goals as goal

@@ -1,5 +1,4 @@
 -- `slots::awaited::awaited_rows` meets its contract.
-use borrow.Author.Rules.{rules}
 use Rattle.slots.proofs.SetLaws.{ones_fit, members_are}
 use Rattle.slots.proofs.awaited.awaited_rows.Goals as goal
 

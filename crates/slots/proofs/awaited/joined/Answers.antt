@@ -1,5 +1,4 @@
 -- `slots::awaited::joined` meets its contract.
-use borrow.Author.Rules.{rules}
 use Rattle.slots.proofs.SetLaws.{joined_room}
 use Rattle.slots.proofs.awaited.joined.Goals as goal
 

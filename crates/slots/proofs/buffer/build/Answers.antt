@@ -1,6 +1,5 @@
 -- `slots::buffer::build` meets its contract.
 use native.Mathlib.Omega.{arith}
-use borrow.Author.Rules.{rules}
 use Rattle.slots.proofs.Builds.{own_cycle, cleared_rowed, built_kept}
 use Rattle.slots.proofs.buffer.build.Goals as goal
 

@@ -1,9 +1,6 @@
 -- `slots::buffer::clear` meets its contract. The loop's invariant: the slots so far are free.
 use mathlib.Core.Path.{refl}
-use Prim.Native.Nat.{◌-◌, ◌≤◌}
 use native.Mathlib.Omega.{arith}
-use borrow.Author.Rules.{rules}
-use Rattle.slots.specs.Buffer.{Written}
 use Rattle.slots.proofs.Written.{written_start, written_up, written_end}
 use Rattle.slots.proofs.buffer.clear.Goals as goal
 

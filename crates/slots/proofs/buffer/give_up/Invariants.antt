@@ -1,7 +1,6 @@
 -- `slots::buffer::give_up` meets its contract. The loop's invariant: in the slots so far only the rows above the place keep their bytes.
 use Prim.Native.Nat.{◌-◌}
-use borrow.Author.Rules.{rules}
-use Rattle.slots.proofs.Refills.{Giving, giving_start, giving_place, giving_step, giving_end}
+use Rattle.slots.proofs.Refills.{Giving}
 use Rattle.slots.proofs.buffer.give_up.Given as goal
 
 abbrev pub invariant-loop-s : goal.invariant-loop-s

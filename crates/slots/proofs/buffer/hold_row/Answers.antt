@@ -1,7 +1,5 @@
 -- `slots::buffer::hold_row` meets its contract. The loop's invariant: the jobs with windows before `first` have reserved.
-use Prim.Native.Nat.{◌-◌}
-use borrow.Author.Rules.{rules}
-use Rattle.slots.proofs.HoldingRow.{able_period, able_start, HoldingRow, row_start, row_fits, row_room, row_nearer, row_step, row_end}
+use Rattle.slots.proofs.HoldingRow.{able_period, able_start, row_start, row_fits, row_room, row_nearer, row_step, row_end}
 use Rattle.slots.proofs.buffer.hold_row.Goals as goal
 
 pub nonzero_div-end : goal.nonzero_div-end

@@ -1,8 +1,6 @@
 -- `slots::buffer::hold_rows` meets its contract. The loop's invariant: the first i rows have reserved.
 use Prim.Native.Nat.{◌-◌}
-use borrow.Author.Rules.{rules}
-use Rattle.table.proofs.Lists.{long}
-use Rattle.slots.proofs.HeldRows.{HoldingRows, rows_start, rows_able, rows_step, rows_end}
+use Rattle.slots.proofs.HeldRows.{HoldingRows}
 use Rattle.slots.proofs.buffer.hold_rows.Given as goal
 
 abbrev pub invariant-loop-i : goal.invariant-loop-i

@@ -1,6 +1,5 @@
 -- `slots::buffer::refill` meets its contract.
 use native.Mathlib.Omega.{arith}
-use borrow.Author.Rules.{rules}
 use Rattle.table.proofs.Lists.{long}
 use Rattle.slots.proofs.Builds.{own_cycle}
 use Rattle.slots.proofs.Refills.{freed_rowed, freed_place, refilled}
@@ -11,10 +10,10 @@ overflow_add-place c = let pre = c.requires in omega (arith, (freed_place pre.0 
 
 pub hold_rows-requires : goal.hold_rows-requires
 hold_rows-requires c = let pre = c.requires in (
-      own_cycle pre.0,
-      (freed_place pre.0 pre.4 (search (long))).0,
-      freed_rowed pre.0 pre.4 pre.1 pre.2 pre.3 c.give_up.ensures,
-    )
+  own_cycle pre.0,
+  (freed_place pre.0 pre.4 (search (long))).0,
+  freed_rowed pre.0 pre.4 pre.1 pre.2 pre.3 c.give_up.ensures,
+)
 
 pub returns : goal.returns
 returns c = search (refilled)

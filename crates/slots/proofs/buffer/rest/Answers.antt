@@ -1,5 +1,4 @@
 -- `slots::buffer::rest` meets its contract.
-use borrow.Author.Rules.{rules}
 use Rattle.slots.proofs.ByteCases.{cond_taken, cond_left}
 use Rattle.slots.proofs.buffer.rest.Goals as goal
 

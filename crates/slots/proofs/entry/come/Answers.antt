@@ -1,5 +1,4 @@
 -- `slots::entry::come` meets its contract.
-use borrow.Author.Rules.{rules}
 use Rattle.slots.proofs.EntryCases.{comes_new, comes_on}
 use Rattle.slots.proofs.entry.come.Goals as goal
 

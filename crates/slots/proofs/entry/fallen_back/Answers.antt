@@ -1,5 +1,4 @@
 -- `slots::entry::fallen_back` meets its contract.
-use borrow.Author.Rules.{rules}
 use Rattle.slots.proofs.EntryCases.{back_waiting, back_failed, back_done}
 use Rattle.slots.proofs.entry.fallen_back.Goals as goal
 

@@ -1,5 +1,4 @@
 -- `slots::entry::fits` meets its contract.
-use borrow.Author.Rules.{rules}
 use Rattle.slots.proofs.EntryCases.{waiting_left, waiting_over, failed_left, failed_over, done_none, done_left, done_over}
 use Rattle.slots.proofs.entry.fits.Goals as goal
 

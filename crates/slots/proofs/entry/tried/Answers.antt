@@ -1,5 +1,4 @@
 -- `slots::entry::tried` meets its contract.
-use borrow.Author.Rules.{rules}
 use Rattle.slots.proofs.EntryCases.{tried_over, tried_on, tried_done, tried_failed}
 use Rattle.slots.proofs.entry.tried.Goals as goal
 

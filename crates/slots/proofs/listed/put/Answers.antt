@@ -1,5 +1,4 @@
 -- `slots::listed::put` meets its contract.
-use borrow.Author.Rules.{rules}
 use Rattle.slots.proofs.RunLoop.{put_past}
 use Rattle.slots.proofs.listed.put.Goals as goal
 

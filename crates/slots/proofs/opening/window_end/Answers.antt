@@ -1,5 +1,4 @@
 -- `slots::opening::window_end` meets its contract.
-use borrow.Author.Rules.{rules}
 use mathlib.Core.Path.{refl}
 use Rattle.table.specs.Windows.{window_end}
 use Rattle.slots.proofs.Openings.{end_room, end_fits}

@@ -1,5 +1,4 @@
 -- `slots::slot::admit` meets its contract.
-use borrow.Author.Rules.{rules}
 use Rattle.slots.proofs.Admittance.{admit_refused, admit_few, admit_sound, admit_not}
 use Rattle.slots.proofs.slot.admit.Goals as goal
 

@@ -1,9 +1,6 @@
 -- `slots::slot::after_clock` meets its contract.
 use Prim.Native.Nat.{◌-◌}
-use borrow.Author.Rules.{rules}
-use Rattle.table.proofs.Lists.{long}
-use Rattle.reserve.proofs.Ready.{few, period_some}
-use Rattle.slots.proofs.EntryLoops.{Renewing, renewing_start, renewing_step, renewing_end}
+use Rattle.slots.proofs.EntryLoops.{Renewing}
 use Rattle.slots.proofs.slot.after_clock.Given as goal
 
 abbrev pub invariant-loop-i : goal.invariant-loop-i

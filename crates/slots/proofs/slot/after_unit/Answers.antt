@@ -1,5 +1,4 @@
 -- `slots::slot::after_unit` meets its contract.
-use borrow.Author.Rules.{rules}
 use Rattle.slots.proofs.UnitMoves.{unit_place, unit_small, unit_moved}
 use Rattle.slots.proofs.slot.after_unit.Goals as goal
 

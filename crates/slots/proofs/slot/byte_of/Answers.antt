@@ -1,5 +1,4 @@
 -- `slots::slot::byte_of` meets its contract.
-use borrow.Author.Rules.{rules}
 use Rattle.slots.proofs.SlotCases.{byte_free, byte_held}
 use Rattle.slots.proofs.slot.byte_of.Goals as goal
 

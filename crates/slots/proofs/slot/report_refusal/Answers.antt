@@ -1,5 +1,4 @@
 -- `slots::slot::report_refusal` meets its contract.
-use borrow.Author.Rules.{rules}
 use Rattle.slots.proofs.SlotCases.{hears_on, hears_end, hears_failure, hears_over}
 use Rattle.slots.proofs.slot.report_refusal.Goals as goal
 

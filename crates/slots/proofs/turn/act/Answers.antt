@@ -1,5 +1,4 @@
 -- `slots::turn::act` meets its contract.
-use borrow.Author.Rules.{rules}
 use Rattle.slots.proofs.TurnCases.{moved_is}
 use Rattle.slots.proofs.turn.act.Goals as goal
 

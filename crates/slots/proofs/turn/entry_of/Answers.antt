@@ -1,5 +1,4 @@
 -- `slots::turn::entry_of` meets its contract.
-use borrow.Author.Rules.{rules}
 use Rattle.slots.proofs.TurnCases.{place_idle, place_primary, place_alternate}
 use Rattle.slots.proofs.turn.entry_of.Goals as goal
 

@@ -1,5 +1,4 @@
 -- `slots::turn::lost_by` meets its contract.
-use borrow.Author.Rules.{rules}
 use Rattle.slots.proofs.TurnCases.{lost_primary, lost_waiting, lost_failed, lost_done}
 use Rattle.slots.proofs.turn.lost_by.Goals as goal
 

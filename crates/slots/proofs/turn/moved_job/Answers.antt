@@ -1,5 +1,4 @@
 -- `slots::turn::moved_job` meets its contract.
-use borrow.Author.Rules.{rules}
 use Rattle.slots.proofs.TurnCases.{moved_idle, moved_primary, moved_alternate}
 use Rattle.slots.proofs.turn.moved_job.Goals as goal
 
