@@ -24,7 +24,7 @@ use Rattle.rule.specs.Rule.{takes, lacks}
 use Rattle.rule.specs.Sweep.{sweep}
 use Rattle.rule.proofs.Tests.{side, false_if, never}
 use Rattle.rule.proofs.FirstRow.{FirstAt}
-use Rattle.rule.proofs.First.{FoundFirst, first_of_found_lem}
+use Rattle.rule.proofs.First.{FoundFirst, first_of_found}
 use Rattle.rule.proofs.Lacks.{tight_none, none_tight, tight_first, first_tight}
 use Rattle.rule.proofs.Words.{above_same, reserves_same, rule_follows, follows_only, follows_enough}
 use Rattle.rule.proofs.Sweep.{sweep_is}
@@ -144,7 +144,7 @@ module _ (t : Table) (e : rows_refusal t ≡ None) where
       let n : j ≤ jobs_of rs i = count_closes r (good i l) (cycle_of rs) j (cycle_multiple rs i l) c.1 in
       let m : 0 < within (listed (reservation_list rs) i) (opens r j) (closes r j) = omega (arith, (good i l).alternate, (list_reserves d i j l c).exactly) in
       let g : FoundFirst (listed (reservation_list rs) i) (opens r j) (closes r j - opens r j) (first_of (listed (reservation_list rs) i) (opens r j) (closes r j - opens r j))
-      = first_of_found_lem (listed (reservation_list rs) i) (opens r j) (closes r j - opens r j) m in
+      = first_of_found (listed (reservation_list rs) i) (opens r j) (closes r j - opens r j) m in
       rw (first_at rs i j l c.0 n, first_listed rs good i j l c.0 n)
       (record {
         from = g.from;

@@ -16,7 +16,7 @@ use Rattle.rule.specs.Rule.{holder, short, begins, lacks, tight_row}
 use Rattle.rule.specs.Sweep.{holders}
 use Rattle.rule.proofs.FirstRow.{found_none}
 use Rattle.rule.proofs.Tests.{side}
-use Rattle.rule.proofs.HolderList.{length_holders, get_d_holders_lem}
+use Rattle.rule.proofs.HolderList.{length_holders, get_or_holders}
 use Rattle.reserve.specs.Turns.{lower_of, Coming, Turned}
 use Rattle.reserve.proofs.Lower.{first_of_two}
 
@@ -109,7 +109,7 @@ module _ (E K : ℕ → ℕ → ℕ) (n L : ℕ) where
           ⊎_elim
           (λ (u : j < L).
           let z : 0 + j ≡ j = omega arith in
-          g.written j (omega arith) u ∙ sym (get_or-append (holders E K n 0 L) (drop L old) 0 j (omega (arith, length_holders E K n 0 L)) ∙ get_d_holders_lem E K n 0 L j u ∙ ap (holder E K n) z))
+          g.written j (omega arith) u ∙ sym (get_or-append (holders E K n 0 L) (drop L old) 0 j (omega (arith, length_holders E K n 0 L)) ∙ get_or_holders E K n 0 L j u ∙ ap (holder E K n) z))
           (λ (u : L ≤ j).
           let q : j ≡ length (holders E K n 0 L) + (j - L) = omega (arith, length_holders E K n 0 L) in
           let r : L + (j - L) ≡ j = omega arith in

@@ -16,9 +16,9 @@ use Rattle.table.proofs.Windows.{end_opens, opens_first, closes_count}
 use Rattle.rule.specs.Slots.{first_of}
 use Rattle.rule.specs.Rule.{takes, holder, first}
 use Rattle.rule.proofs.Tests.{both_ways}
-use Rattle.rule.proofs.First.{first_of_same_lem}
+use Rattle.rule.proofs.First.{first_of_same}
 use Rattle.rule.proofs.Holders.{holder_is, is_holder}
-use Rattle.rule.proofs.HolderList.{get_d_holders_lem}
+use Rattle.rule.proofs.HolderList.{get_or_holders}
 use Rattle.reserve.specs.Tables.{ends, whole}
 use Rattle.reserve.specs.Lists.{reservation_list, jobs_of, job_firsts, row_firsts, first_slots}
 use Rattle.reserve.specs.Demand.{jobs_from, job_place}
@@ -75,7 +75,7 @@ module _ (rs : List Row) where
   unfolding reservation_list
   byte_takes i s l u =
       let z : 0 + s ≡ s = omega arith in
-      let b : get_or (reservation_list rs) s 0 ≡ holder (ends rs) (whole rs) (length rs) s = rw z at (get_d_holders_lem (ends rs) (whole rs) (length rs) 0 (cycle_of rs) s u) in
+      let b : get_or (reservation_list rs) s 0 ≡ holder (ends rs) (whole rs) (length rs) s = rw z at (get_or_holders (ends rs) (whole rs) (length rs) 0 (cycle_of rs) s u) in
       both_ways (eqb (get_or (reservation_list rs) s 0) (suc i)) (takes (ends rs) (whole rs) i s)
       (λ h. (is_holder (ends rs) (whole rs) (length rs) i s (sym b ∙ eqb-true (get_or (reservation_list rs) s 0) (suc i) h)).1)
       (λ h. eq-eqb (get_or (reservation_list rs) s 0) (suc i) (b ∙ holder_is (ends rs) (whole rs) (length rs) i s l h))
@@ -89,5 +89,5 @@ module _ (rs : List Row) where
       let e : window_end (row_at rs i) (opens (row_at rs i) j) ≡ closes (row_at rs i) j = end_opens (row_at rs i) (good i l) j p in
       let w : closes (row_at rs i) j ≤ cycle_of rs = closes_count (row_at rs i) (good i l) (cycle_of rs) j (cycle_multiple rs i l) u in
       rw e
-      (first_of_same_lem (takes (ends rs) (whole rs) i) (λ s. eqb (get_or (reservation_list rs) s 0) (suc i)) (opens (row_at rs i) j) (closes (row_at rs i) j - opens (row_at rs i) j)
+      (first_of_same (takes (ends rs) (whole rs) i) (λ s. eqb (get_or (reservation_list rs) s 0) (suc i)) (opens (row_at rs i) j) (closes (row_at rs i) j - opens (row_at rs i) j)
       (λ s a b. sym (byte_takes i s l (omega (arith, opens_first (row_at rs i) (good i l) j p)))))

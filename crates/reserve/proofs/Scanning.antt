@@ -19,7 +19,7 @@ use Rattle.table.proofs.Cycle.{cycle_multiple}
 use Rattle.table.proofs.Windows.{closes_count}
 use Rattle.rule.specs.Slots.{first_of}
 use Rattle.rule.specs.Rule.{first}
-use Rattle.rule.proofs.First.{first_of_none_lem, first_of_here_lem, first_of_later_lem, first_of_same_lem}
+use Rattle.rule.proofs.First.{first_of_none, first_of_here, first_of_later, first_of_same}
 use Rattle.reserve.specs.Tables.{ends, whole}
 use Rattle.reserve.specs.Lists.{reservation_list, jobs_of, job_firsts, row_firsts, first_slots}
 use Rattle.reserve.specs.Turns.{Ready, Listed}
@@ -37,18 +37,18 @@ missed_start list row from to l = record { upto = l; rest = refl }
 pub missed_found : {list : List ℕ} {row from to s : ℕ} → Missed list row from to s → s < to → get_or list s 0 ≡ row → s ≡ first_of (λ t. eqb (get_or list t 0) row) from (to - from)
 missed_found {list} {row} {from} {to} {s} g l h =
     let q : to - s ≡ suc (to - suc s) = omega arith in
-    sym (g.rest ∙ rw q (first_of_here_lem (λ t. eqb (get_or list t 0) row) s (to - suc s) (eq-eqb (get_or list s 0) row h)))
+    sym (g.rest ∙ rw q (first_of_here (λ t. eqb (get_or list t 0) row) s (to - suc s) (eq-eqb (get_or list s 0) row h)))
 
 pub missed_more : {list : List ℕ} {row from to s : ℕ} → Missed list row from to s → s < to → (get_or list s 0 ≡ row → ⊥) → Missed list row from to (s + 1)
 missed_more {list} {row} {from} {to} {s} g l h =
     let q : to - s ≡ suc (to - suc s) = omega arith in
-    record { upto = omega arith; rest = g.rest ∙ rw (q, add-one) (first_of_later_lem (λ t. eqb (get_or list t 0) row) s (to - suc s) (ne_eqb (get_or list s 0) row h)) }
+    record { upto = omega arith; rest = g.rest ∙ rw (q, add-one) (first_of_later (λ t. eqb (get_or list t 0) row) s (to - suc s) (ne_eqb (get_or list s 0) row h)) }
 
 pub missed_all : {list : List ℕ} {row from to s : ℕ} → Missed list row from to s → to ≤ s → to ≡ first_of (λ t. eqb (get_or list t 0) row) from (to - from)
 missed_all {list} {row} {from} {to} {s} g l =
     let e : s ≡ to = omega (arith, g.upto) in
     let z : to - to ≡ 0 = omega arith in
-    sym (g.rest ∙ rw (e, z) (first_of_none_lem (λ t. eqb (get_or list t 0) row) to))
+    sym (g.rest ∙ rw (e, z) (first_of_none (λ t. eqb (get_or list t 0) row) to))
 
 -- the code's division
 pub jobs_are : {t : Table} {cycle : ℕ} → Ready t cycle → length t.rows ≡ 16 → (i : ℕ) → i < t.n → cycle / (get_or t.rows i blank).period ≡ jobs_of (used t) i
@@ -126,7 +126,7 @@ module _ {t : Table} {cycle : ℕ} (r : Ready t cycle) where
         let f : first (ends (used t)) (whole (used t)) i (j * p) ≡ first_of (λ s. eqb (get_or (reservation_list (used t)) s 0) (suc i)) (j * p) (j * p + p - j * p)
         = rw (n, b, d) at (first_listed (used t) (good r) i (suc j) row (omega arith) u) in
         q ∙ rw (n, a, add-one i)
-        (first_of_same_lem (λ s. eqb (get_or list s 0) (suc i)) (λ s. eqb (get_or (reservation_list (used t)) s 0) (suc i)) (j * p) (j * p + p - j * p)
+        (first_of_same (λ s. eqb (get_or list s 0) (suc i)) (λ s. eqb (get_or (reservation_list (used t)) s 0) (suc i)) (j * p) (j * p + p - j * p)
         (λ x v y. ap (λ (z : ℕ). eqb z (suc i)) (h.bytes x (omega arith)))
         ∙ sym f)
 

@@ -20,7 +20,7 @@ use Rattle.rule.specs.Rule.{held, takes, holder, short, begins, Windows, Claims}
 use Rattle.rule.specs.Sweep.{rem}
 use Rattle.rule.proofs.Tests.{split, side, never, both_ways}
 use Rattle.rule.proofs.Facts.{from, leaves_held, short_few, short_not}
-use Rattle.rule.proofs.FirstRow.{row_found, first_row_suc_lem}
+use Rattle.rule.proofs.FirstRow.{row_found, first_row_suc}
 use Rattle.rule.proofs.Holders.{holder_free, free_holder, holder_suc}
 use Rattle.rule.proofs.Remainders.{met, unmet, taken_left, rem_step, rem_last, rem_short}
 use Rattle.reserve.specs.Turns.{claim_at, Coming, Turned}
@@ -123,5 +123,5 @@ turn_step {E} {K} {n} win cl {c} {s} {xs} {row} {low} {i} g l room xs₀ coming 
           below_more (λ j. get_or (set xs i y) j 0 ≡ rem E K j s - unit (takes E K j s)) i
           (λ j u. get_or-set_other xs i j y 0 (λ q. omega arith) ∙ g.rests j u) (get_or-set_same xs i y 0 room ∙ fy);
       holds = fr ∙ rw (g.holds, add-one) (sym (holder_suc E K i s));
-      lowest = el ∙ rw (g.lowest, fb, add-one) (sym (first_row_suc_lem (λ j. begins E K c j s && short E K j s) i));
+      lowest = el ∙ rw (g.lowest, fb, add-one) (sym (first_row_suc (λ j. begins E K c j s && short E K j s) i));
     }

@@ -9,15 +9,15 @@ use Rattle.rule.specs.Rule.{held, takes, holder, first, short, begins, lacks, ti
 use Rattle.rule.specs.Sweep.{holders}
 use Rattle.rule.proofs.Counting.{between_same}
 use Rattle.rule.proofs.Facts.{held_none, held_is}
-use Rattle.rule.proofs.First.{first_of_same_lem}
-use Rattle.rule.proofs.FirstRow.{first_row_suc_lem}
+use Rattle.rule.proofs.First.{first_of_same}
+use Rattle.rule.proofs.FirstRow.{first_row_suc}
 use Rattle.rule.proofs.Unit.{takes_same}
 
 -- ---- two tests that agree
-pub first_row_same_lem : (P Q : ℕ → Bool) (n : ℕ) → ((i : ℕ) → i < n → P i ≡ Q i) → first_row P n ≡ first_row Q n
+pub first_row_same : (P Q : ℕ → Bool) (n : ℕ) → ((i : ℕ) → i < n → P i ≡ Q i) → first_row P n ≡ first_row Q n
 unfolding first_row
-first_row_same_lem P Q zero h = refl
-first_row_same_lem P Q (suc n) h = cc (first_row_suc_lem P n, first_row_suc_lem Q n, first_row_same_lem P Q n (λ i l. h i (omega arith)), h n (omega arith))
+first_row_same P Q zero h = refl
+first_row_same P Q (suc n) h = cc (first_row_suc P n, first_row_suc Q n, first_row_same P Q n (λ i l. h i (omega arith)), h n (omega arith))
 
 some_same : (P Q : ℕ → Bool) (s n : ℕ) → ((t : ℕ) → s ≤ t → P t ≡ Q t) → some P s n ≡ some Q s n
 unfolding some
@@ -39,7 +39,7 @@ module _ (E K K' : ℕ → ℕ → ℕ) (n c : ℕ) (agree : (i s : ℕ) → i <
 
   pub holder_alike : (s : ℕ) → c ≤ s → holder E K' n s ≡ holder E K n s
   unfolding holder
-  holder_alike s l = first_row_same_lem (λ i. takes E K' i s) (λ i. takes E K i s) n (λ i b. takes_alike i s b l)
+  holder_alike s l = first_row_same (λ i. takes E K' i s) (λ i. takes E K i s) n (λ i b. takes_alike i s b l)
 
   pub holders_alike : (m s : ℕ) → c ≤ s → holders E K' n s m ≡ holders E K n s m
   unfolding holders
@@ -48,7 +48,7 @@ module _ (E K K' : ℕ → ℕ → ℕ) (n c : ℕ) (agree : (i s : ℕ) → i <
 
   pub first_alike : (i w : ℕ) → i < n → c ≤ w → first E K' i w ≡ first E K i w
   unfolding first
-  first_alike i w b l = first_of_same_lem (takes E K' i) (takes E K i) w (E i w - w) (λ t u v. takes_alike i t b (omega arith))
+  first_alike i w b l = first_of_same (takes E K' i) (takes E K i) w (E i w - w) (λ t u v. takes_alike i t b (omega arith))
 
   pub short_alike : (i s : ℕ) → i < n → c ≤ s → short E K' i s ≡ short E K i s
   unfolding short
@@ -62,4 +62,4 @@ module _ (E K K' : ℕ → ℕ → ℕ) (n c : ℕ) (agree : (i s : ℕ) → i <
 
   pub tight_alike : (L : ℕ) → tight_row E K' c L n ≡ tight_row E K c L n
   unfolding tight_row
-  tight_alike L = first_row_same_lem (lacks E K' c L) (lacks E K c L) n (λ i b. lacks_alike L i b)
+  tight_alike L = first_row_same (lacks E K' c L) (lacks E K c L) n (λ i b. lacks_alike L i b)

@@ -13,31 +13,31 @@ use Rattle.rule.proofs.Facts.{after, leaves_if, short_not, not_short}
 use Rattle.rule.proofs.Monotone.{freer}
 use Rattle.rule.proofs.Kept.{kept}
 
-pub first_of_none_lem : (P : ℕ → Bool) (s : ℕ) → first_of P s 0 ≡ s
+pub first_of_none : (P : ℕ → Bool) (s : ℕ) → first_of P s 0 ≡ s
 unfolding first_of
-first_of_none_lem P s = refl
+first_of_none P s = refl
 
-pub first_of_here_lem : (P : ℕ → Bool) (s n : ℕ) → P s ≡ true → first_of P s (suc n) ≡ s
+pub first_of_here : (P : ℕ → Bool) (s n : ℕ) → P s ≡ true → first_of P s (suc n) ≡ s
 unfolding first_of
-first_of_here_lem P s n h = rw (h, first_of)
+first_of_here P s n h = rw (h, first_of)
 
-pub first_of_later_lem : (P : ℕ → Bool) (s n : ℕ) → P s ≡ false → first_of P s (suc n) ≡ first_of P (suc s) n
+pub first_of_later : (P : ℕ → Bool) (s n : ℕ) → P s ≡ false → first_of P s (suc n) ≡ first_of P (suc s) n
 unfolding first_of
-first_of_later_lem P s n h = rw (h, first_of)
+first_of_later P s n h = rw (h, first_of)
 
-pub first_of_from_lem : (P : ℕ → Bool) (s n : ℕ) → s ≤ first_of P s n
-first_of_from_lem P s zero = omega (arith, first_of_none_lem P s)
-first_of_from_lem P s (suc n) =
-    let r : suc s ≤ first_of P (suc s) n = first_of_from_lem P (suc s) n in
-    ⊎_elim (λ h. omega (arith, first_of_here_lem P s n h)) (λ h. omega (arith, first_of_later_lem P s n h)) (split (P s))
+pub first_of_from : (P : ℕ → Bool) (s n : ℕ) → s ≤ first_of P s n
+first_of_from P s zero = omega (arith, first_of_none P s)
+first_of_from P s (suc n) =
+    let r : suc s ≤ first_of P (suc s) n = first_of_from P (suc s) n in
+    ⊎_elim (λ h. omega (arith, first_of_here P s n h)) (λ h. omega (arith, first_of_later P s n h)) (split (P s))
 
 -- two tests that agree first hold at the same slot
-pub first_of_same_lem : (P Q : ℕ → Bool) (s n : ℕ) → ((t : ℕ) → s ≤ t → t < s + n → P t ≡ Q t) → first_of P s n ≡ first_of Q s n
-first_of_same_lem P Q s zero h = first_of_none_lem P s ∙ sym (first_of_none_lem Q s)
-first_of_same_lem P Q s (suc n) h =
+pub first_of_same : (P Q : ℕ → Bool) (s n : ℕ) → ((t : ℕ) → s ≤ t → t < s + n → P t ≡ Q t) → first_of P s n ≡ first_of Q s n
+first_of_same P Q s zero h = first_of_none P s ∙ sym (first_of_none Q s)
+first_of_same P Q s (suc n) h =
     let e : P s ≡ Q s = h s (omega arith) (omega arith) in
-    ⊎_elim (λ t. first_of_here_lem P s n t ∙ sym (first_of_here_lem Q s n (sym e ∙ t)))
-    (λ t. first_of_later_lem P s n t ∙ first_of_same_lem P Q (suc s) n (λ x l u. h x (omega arith) (omega arith)) ∙ sym (first_of_later_lem Q s n (sym e ∙ t)))
+    ⊎_elim (λ t. first_of_here P s n t ∙ sym (first_of_here Q s n (sym e ∙ t)))
+    (λ t. first_of_later P s n t ∙ first_of_same P Q (suc s) n (λ x l u. h x (omega arith) (omega arith)) ∙ sym (first_of_later Q s n (sym e ∙ t)))
     (split (P s))
 
 -- where P holds at some slot, f is the first such
@@ -47,15 +47,15 @@ pub record FoundFirst (P : ℕ → Bool) (s n f : ℕ) : Type 0 where
   pub here : P f ≡ true
   pub none_earlier : (t : ℕ) → s ≤ t → t < f → P t ≡ false
 
-pub first_of_found_lem : (P : ℕ → Bool) (s n : ℕ) → 0 < count P s n → FoundFirst P s n (first_of P s n)
+pub first_of_found : (P : ℕ → Bool) (s n : ℕ) → 0 < count P s n → FoundFirst P s n (first_of P s n)
 unfolding count
-first_of_found_lem P s zero l = absurd (omega arith)
-first_of_found_lem P s (suc n) l =
+first_of_found P s zero l = absurd (omega arith)
+first_of_found P s (suc n) l =
     ⊎_elim
-    (λ h. rw (first_of_here_lem P s n h) (record { from = omega arith; before = omega arith; here = h; none_earlier = λ t a b. absurd (omega arith) }))
+    (λ h. rw (first_of_here P s n h) (record { from = omega arith; before = omega arith; here = h; none_earlier = λ t a b. absurd (omega arith) }))
     (λ h.
-    let g : FoundFirst P (suc s) n (first_of P (suc s) n) = first_of_found_lem P (suc s) n (omega (arith, ap unit h)) in
-    rw (first_of_later_lem P s n h)
+    let g : FoundFirst P (suc s) n (first_of P (suc s) n) = first_of_found P (suc s) n (omega (arith, ap unit h)) in
+    rw (first_of_later P s n h)
     (record {
       from = omega (arith, g.from);
       before = omega (arith, g.before);
@@ -93,13 +93,13 @@ module _
       (rw (ends s l u) (omega (arith, less i s row (omega arith), claims s l u, freer E K K' n c less i (suc s) (E i w) (omega arith) (omega arith))))
 
   later : (n s : ℕ) → w ≤ s → s + n ≡ E i w → Enough s → first_of (takes E K i) s n ≤ first_of (takes E K' i) s n
-  later zero s l e enough = omega (arith, first_of_none_lem (takes E K i) s, first_of_none_lem (takes E K' i) s)
+  later zero s l e enough = omega (arith, first_of_none (takes E K i) s, first_of_none (takes E K' i) s)
   later (suc n) s l e enough =
-      ⊎_elim (λ h. omega (arith, first_of_here_lem (takes E K i) s n h, first_of_from_lem (takes E K' i) s (suc n)))
+      ⊎_elim (λ h. omega (arith, first_of_here (takes E K i) s n h, first_of_from (takes E K' i) s (suc n)))
       (λ h.
       let more : Enough (suc s) = passed s l (omega arith) enough h in
       let r : first_of (takes E K i) (suc s) n ≤ first_of (takes E K' i) (suc s) n = later n (suc s) (omega arith) (omega arith) more in
-      omega (arith, first_of_later_lem (takes E K i) s n h, first_of_later_lem (takes E K' i) s n (left s l (omega arith) more)))
+      omega (arith, first_of_later (takes E K i) s n h, first_of_later (takes E K' i) s n (left s l (omega arith) more)))
       (split (takes E K i s))
 
   pub first_later : w ≤ E i w → short E K i w ≡ false → first E K i w ≤ first E K' i w

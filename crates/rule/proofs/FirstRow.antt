@@ -32,9 +32,9 @@ module _ (P : ℕ → Bool) where
   abbrev None : ℕ → Type 0
   None n = (j : ℕ) → j < n → P j ≡ false
 
-  pub first_row_suc_lem : (n : ℕ) → first_row P (suc n) ≡ or_row (first_row P n) (P n) (suc n)
+  pub first_row_suc : (n : ℕ) → first_row P (suc n) ≡ or_row (first_row P n) (P n) (suc n)
   unfolding first_row
-  first_row_suc_lem n = refl
+  first_row_suc n = refl
 
   none_more : (n : ℕ) → None n → P n ≡ false → None (suc n)
   none_more n h e j l = ⊎_elim (λ (u : j < n). h j u) (λ (u : n ≤ j). let q : j ≡ n = omega arith in rw q e) (side j n)
@@ -47,15 +47,15 @@ module _ (P : ℕ → Bool) where
       none : (first_row P n ≡ 0) × None n → ((first_row P (suc n) ≡ 0) × None (suc n)) ⊎ ((i : ℕ) × (first_row P (suc n) ≡ suc i) × FirstAt P (suc n) i)
       none h =
           ⊎_elim
-          (λ t. inr (n, first_row_suc_lem n ∙ row_here (first_row P n) (suc n) (P n) h.0 t, record { row = omega arith; here = t; none_before = h.1 }))
-          (λ t. inl (first_row_suc_lem n ∙ row_none (first_row P n) (suc n) (P n) h.0 t, none_more n h.1 t))
+          (λ t. inr (n, first_row_suc n ∙ row_here (first_row P n) (suc n) (P n) h.0 t, record { row = omega arith; here = t; none_before = h.1 }))
+          (λ t. inl (first_row_suc n ∙ row_none (first_row P n) (suc n) (P n) h.0 t, none_more n h.1 t))
           (split (P n))
 
       found : (i : ℕ) × (first_row P n ≡ suc i) × FirstAt P n i → ((first_row P (suc n) ≡ 0) × None (suc n)) ⊎ ((i : ℕ) × (first_row P (suc n) ≡ suc i) × FirstAt P (suc n) i)
       found h =
           let e : first_row P n ≡ suc h.0 = h.1 in
           let a : FirstAt P n h.0 = h.2 in
-          inr (h.0, first_row_suc_lem n ∙ row_found (first_row P n) (suc n) (P n) (omega arith) ∙ e, record { row = omega (arith, a.row); here = a.here; none_before = a.none_before })
+          inr (h.0, first_row_suc n ∙ row_found (first_row P n) (suc n) (P n) (omega arith) ∙ e, record { row = omega (arith, a.row); here = a.here; none_before = a.none_before })
 
   -- no row, both ways
   pub none_found : (n : ℕ) → first_row P n ≡ 0 → (j : ℕ) → j < n → P j ≡ false

@@ -13,8 +13,8 @@ module _ (E K : ℕ → ℕ → ℕ) (n : ℕ) where
   length_holders c zero = refl
   length_holders c (suc m) = ap suc (length_holders (suc c) m)
 
-  pub get_d_holders_lem : (c m j : ℕ) → j < m → get_or (holders E K n c m) j 0 ≡ holder E K n (c + j)
+  pub get_or_holders : (c m j : ℕ) → j < m → get_or (holders E K n c m) j 0 ≡ holder E K n (c + j)
   unfolding holders
-  get_d_holders_lem c zero j l = absurd (omega arith)
-  get_d_holders_lem c (suc m) zero l = let e : c + 0 ≡ c = omega arith in rw e
-  get_d_holders_lem c (suc m) (suc j) l = let e : c + suc j ≡ suc c + j = omega arith in rw e (get_d_holders_lem (suc c) m j (omega arith))
+  get_or_holders c zero j l = absurd (omega arith)
+  get_or_holders c (suc m) zero l = let e : c + 0 ≡ c = omega arith in rw e
+  get_or_holders c (suc m) (suc j) l = let e : c + suc j ≡ suc c + j = omega arith in rw e (get_or_holders (suc c) m j (omega arith))

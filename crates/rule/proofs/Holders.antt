@@ -11,7 +11,7 @@ use Rattle.rule.specs.Rule.{between, held, takes, holder}
 use Rattle.rule.proofs.Tests.{split, side, never, false_if}
 use Rattle.rule.proofs.Counting.{gap, within_parted}
 use Rattle.rule.proofs.Facts.{held_none, held_up, held_taken, held_neither, takes_free, leaves_held}
-use Rattle.rule.proofs.FirstRow.{FirstAt, first_row_suc_lem, none_found, found_none, row_first, first_row_lem}
+use Rattle.rule.proofs.FirstRow.{FirstAt, first_row_suc, none_found, found_none, row_first, first_row_lem}
 
 module _ (E K : ℕ → ℕ → ℕ) where
   -- a slot that n rows leave free is left free by the first of them
@@ -67,4 +67,4 @@ module _ (E K : ℕ → ℕ → ℕ) where
 
   pub holder_suc : (n s : ℕ) → holder E K (suc n) s ≡ or_row (holder E K n s) (takes E K n s) (suc n)
   unfolding holder
-  holder_suc n s = first_row_suc_lem (λ i. takes E K i s) n
+  holder_suc n s = first_row_suc (λ i. takes E K i s) n

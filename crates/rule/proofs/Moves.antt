@@ -12,7 +12,7 @@ use Rattle.rule.proofs.Tests.{side}
 use Rattle.rule.proofs.Facts.{takes_few}
 use Rattle.rule.proofs.Unit.{takes_after}
 use Rattle.rule.proofs.Claims.{claimed_claims}
-use Rattle.rule.proofs.Alike.{first_row_same_lem, holder_alike}
+use Rattle.rule.proofs.Alike.{first_row_same, holder_alike}
 use Rattle.rule.proofs.Enough.{Enough}
 use Rattle.rule.proofs.Advance.{pass, pass_taken}
 
@@ -98,7 +98,7 @@ module _ {E : ℕ → ℕ → ℕ} {n : ℕ} (win : Windows E n) (W : ℕ → �
 
       pub keeps_holder_ran : (s : ℕ) → c < s → holder E K' n s ≡ holder E K n s
       unfolding holder
-      keeps_holder_ran s u = first_row_same_lem (λ i. takes E K' i s) (λ i. takes E K i s) n (λ i row. keeps_ran i s row u)
+      keeps_holder_ran s u = first_row_same (λ i. takes E K' i s) (λ i. takes E K i s) n (λ i row. keeps_ran i s row u)
 
     -- row r held the slot, and has one unit less left: no job is short after it
     pub ran : (L r : ℕ) → r < n → takes E K r c ≡ true → m r ≡ l r - 1 → ((i : ℕ) → i < n → i ≢ r → m i ≡ l i) → suc c < L → Enough E K n c L → Enough E K' n (suc c) L

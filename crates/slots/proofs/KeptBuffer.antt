@@ -11,7 +11,7 @@ use Rattle.table.specs.declared.Row.{Row}
 use Rattle.table.specs.Rows.{cycle_of}
 use Rattle.rule.specs.Sweep.{holders}
 use Rattle.rule.proofs.Tests.{side}
-use Rattle.rule.proofs.HolderList.{length_holders, get_d_holders_lem}
+use Rattle.rule.proofs.HolderList.{length_holders, get_or_holders}
 use Rattle.reserve.specs.Tables.{ends}
 use Rattle.slots.specs.declared.Record.{Record}
 use Rattle.slots.specs.Sound.{claims_of}
@@ -49,7 +49,7 @@ module _ (rs : List Row) (q : Record) (in_cycle : q.clock ≤ cycle_of rs) where
       let e' : q.clock + (s - q.clock) ≡ s = omega arith in
       ap (λ (k : ℕ). get_or (front ++ held) k 0) e
       ∙ get_or-append-add front held (s - q.clock) 0
-      ∙ get_d_holders_lem (ends rs) (claims_of rs q) (length rs) q.clock (cycle_of rs - q.clock) (s - q.clock) (omega arith)
+      ∙ get_or_holders (ends rs) (claims_of rs q) (length rs) q.clock (cycle_of rs - q.clock) (s - q.clock) (omega arith)
       ∙ rw e'
 
 -- ---- a buffer that is kept is that list, and then the bytes that it held

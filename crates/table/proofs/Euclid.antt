@@ -6,32 +6,32 @@ use native.Mathlib.Nat.{dvd_refl, dvd-zero, dvd-mul_left, dvd-mul_right, dvd-mul
 use native.Mathlib.Omega.{arith}
 use Rattle.table.specs.Gcd.{gcd_in, gcd_of, lcm_of}
 
-gcd_in_divides_lem : (n x y : ℕ) → y < n → (gcd_in n x y ∣ x) × (gcd_in n x y ∣ y)
+gcd_in_divides : (n x y : ℕ) → y < n → (gcd_in n x y ∣ x) × (gcd_in n x y ∣ y)
 unfolding gcd_in
-gcd_in_divides_lem zero x y h = absurd (omega arith)
-gcd_in_divides_lem (suc n) x zero h = (dvd_refl x, dvd-zero x)
-gcd_in_divides_lem (suc n) x (suc y) h =
+gcd_in_divides zero x y h = absurd (omega arith)
+gcd_in_divides (suc n) x zero h = (dvd_refl x, dvd-zero x)
+gcd_in_divides (suc n) x (suc y) h =
     let m : x % suc y < suc y = mod-lt x (omega arith) in
-    let d = gcd_in_divides_lem n (suc y) (x % suc y) (omega arith) in
+    let d = gcd_in_divides n (suc y) (x % suc y) (omega arith) in
     ((dvd-mod_iff _ d.0).0 d.1, d.0)
 
 -- any bound above y gives the same
-gcd_in_bound_lem : (n m x y : ℕ) → y < n → y < m → gcd_in n x y ≡ gcd_in m x y
+gcd_in_bound : (n m x y : ℕ) → y < n → y < m → gcd_in n x y ≡ gcd_in m x y
 unfolding gcd_in
-gcd_in_bound_lem zero m x y h k = absurd (omega arith)
-gcd_in_bound_lem (suc n) zero x y h k = absurd (omega arith)
-gcd_in_bound_lem (suc n) (suc m) x zero h k = refl
-gcd_in_bound_lem (suc n) (suc m) x (suc y) h k =
+gcd_in_bound zero m x y h k = absurd (omega arith)
+gcd_in_bound (suc n) zero x y h k = absurd (omega arith)
+gcd_in_bound (suc n) (suc m) x zero h k = refl
+gcd_in_bound (suc n) (suc m) x (suc y) h k =
     let l : x % suc y < suc y = mod-lt x (omega arith) in
-    gcd_in_bound_lem n m (suc y) (x % suc y) (omega arith) (omega arith)
+    gcd_in_bound n m (suc y) (x % suc y) (omega arith) (omega arith)
 
 -- what divides m times each divides m times their greatest common divisor: at 1 it is the greatest, and the least common multiple needs any m
-gcd_in_times_lem : (n x y d m : ℕ) → d ∣ m * x → d ∣ m * y → d ∣ m * gcd_in n x y
+gcd_in_times : (n x y d m : ℕ) → d ∣ m * x → d ∣ m * y → d ∣ m * gcd_in n x y
 unfolding gcd_in
-gcd_in_times_lem zero x y d m h k = h
-gcd_in_times_lem (suc n) x zero d m h k = h
-gcd_in_times_lem (suc n) x (suc y) d m h k =
-    gcd_in_times_lem n (suc y) (x % suc y) d m k ((dvd-add_iff_right d whole).1 (rw parts at h))
+gcd_in_times zero x y d m h k = h
+gcd_in_times (suc n) x zero d m h k = h
+gcd_in_times (suc n) x (suc y) d m h k =
+    gcd_in_times n (suc y) (x % suc y) d m k ((dvd-add_iff_right d whole).1 (rw parts at h))
   where
     parts : m * x ≡ m * (x / suc y * suc y) + m * (x % suc y)
     parts = ap (λ (z : ℕ). m * z) (sym (div-add-mod' x (suc y))) ∙ mul-add m (x / suc y * suc y) (x % suc y)
@@ -51,21 +51,21 @@ unfolding gcd_of gcd_in
 gcd_step x zero h = absurd (omega arith)
 gcd_step x (suc y) h =
     let l : x % suc y < suc y = mod-lt x (omega arith) in
-    gcd_in_bound_lem (suc y) (suc (x % suc y)) (suc y) (x % suc y) l (omega arith)
+    gcd_in_bound (suc y) (suc (x % suc y)) (suc y) (x % suc y) l (omega arith)
 
 module _ (x y : ℕ) where
   -- ---- the greatest common divisor
   pub gcd_left : gcd_of x y ∣ x
   unfolding gcd_of
-  gcd_left = (gcd_in_divides_lem (suc y) x y (omega arith)).0
+  gcd_left = (gcd_in_divides (suc y) x y (omega arith)).0
 
   pub gcd_right : gcd_of x y ∣ y
   unfolding gcd_of
-  gcd_right = (gcd_in_divides_lem (suc y) x y (omega arith)).1
+  gcd_right = (gcd_in_divides (suc y) x y (omega arith)).1
 
   gcd_times : (d m : ℕ) → d ∣ m * x → d ∣ m * y → d ∣ m * gcd_of x y
   unfolding gcd_of
-  gcd_times = gcd_in_times_lem (suc y) x y
+  gcd_times = gcd_in_times (suc y) x y
 
   pub gcd_greatest : (d : ℕ) → d ∣ x → d ∣ y → d ∣ gcd_of x y
   gcd_greatest d h k =
