@@ -111,12 +111,12 @@ module _ {t : Table} {reps log : List ℕ} {base n place : ℕ} {spans old : Lis
   recounting_row = omega (arith, g.is_row, (table_usable t g.accepted).few)
 
   -- up to where a stretch ends
-  module _ {stop : ℕ} (on : i < stop) (in_List : stop ≤ n) where
+  module _ {stop : ℕ} (on : i < stop) (in_list : stop ≤ n) where
     pub recounting_stop : base + stop < 2 ^ 64
     recounting_stop = omega (arith, g.logged.listed, g.few)
 
     pub recounting_logged : Logged t reps base stop log
-    recounting_logged = logged_less t reps base n log g.logged stop in_List
+    recounting_logged = logged_less t reps base n log g.logged stop in_list
 
     pub recounting_past : Past spans bag (base + stop)
     recounting_past = record { few = g.past.few; ended = λ c l. omega (arith, g.past.ended c l) }
@@ -175,7 +175,7 @@ module _ {t : Table} {reps log : List ℕ} {base n place : ℕ} {spans old : Lis
           sixteen = g.sixteen;
           is_row = g.is_row;
           ordered = g.ordered;
-          within = in_List;
+          within = in_list;
           opens = told_after t reps (base + i) (base + stop) later long close after os' cs cs' told closed;
           counts = counted_after t reps (base + i) (base + stop) later long close after os' cs cs' told closed g.counts;
           past = found;

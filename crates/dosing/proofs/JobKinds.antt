@@ -101,13 +101,13 @@ module _ {k : ℕ} {r : Row} {s n : ℕ} {works : ℕ → Work} {reports : ℕ �
       ending_tried works reports k r.primary s (new_job r) m w (going_there m l (waits_there m l w)) ∙ ap (by_report (reports (s + m)) r.primary) (units_are (suc m))
 
   -- a test of endings that only a report can meet
-  module _ (test : Ending → Bool) (not-Going : test going ≡ false) (not-aborted : test aborted ≡ false) where
+  module _ (test : Ending → Bool) (not_going : test going ≡ false) (not_aborted : test aborted ≡ false) where
     -- one of the first m slots had such a report
     abbrev pub Told : ℕ → Type 0
     Told m = (i : ℕ) × (i < m) × (works (s + i) ≡ primary k) × (test (by_report (reports (s + i)) r.primary (primaries k works s (s + suc i))) ≡ true)
 
     told_found : (m : ℕ) → m ≤ n → test (ending m) ≡ true → Told m
-    told_found zero l h = never h (ap test first_going ∙ not-Going)
+    told_found zero l h = never h (ap test first_going ∙ not_going)
     told_found (suc m) l h = go (told_found m (omega arith)) (win.acts m l)
       where
         longer : Told m → Told (suc m)
@@ -117,7 +117,7 @@ module _ {k : ℕ} {r : Row} {s n : ℕ} {works : ℕ → Work} {reports : ℕ �
         go ih (rests x y e) = longer (ih (sym (ap test (ending_rests works reports k r.primary s (new_job r) m x y)) ∙ h))
         go ih (tries v x e) = (m, omega arith, v, sym (ap test (ends_there m l v)) ∙ h)
         go ih (falls_back v x e) =
-            ⊎_elim (λ z. never h (ap test (ending_fallen works reports k r.primary s (new_job r) m v z.1) ∙ not-aborted))
+            ⊎_elim (λ z. never h (ap test (ending_fallen works reports k r.primary s (new_job r) m v z.1) ∙ not_aborted))
             (λ z. longer (ih (sym (ap test (ending_stays works reports k r.primary s (new_job r) m z.1)) ∙ h)))
             (together win m (omega arith))
 
@@ -130,7 +130,7 @@ module _ {k : ℕ} {r : Row} {s n : ℕ} {works : ℕ → Work} {reports : ℕ �
         subst (λ (i : ℕ). test (ending (suc i)) ≡ true) q (ap test (ends_there f.0 (omega arith) f.2) ∙ f.3))
         (λ (u : suc f.0 < suc m).
         let before : test (ending m) ≡ true = told_stands m (omega arith) (f.0, omega arith, f.2, f.3) in
-        ap test (ending_stays works reports k r.primary s (new_job r) m (λ g. never before (ap test g ∙ not-Going))) ∙ before)
+        ap test (ending_stays works reports k r.primary s (new_job r) m (λ g. never before (ap test g ∙ not_going))) ∙ before)
         (eq-or-lt_of_le f.1)
 
     pub told : (test (ending_of works reports k r.primary s (new_job r) n) ≡ true) ↔ Told n

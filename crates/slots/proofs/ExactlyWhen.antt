@@ -13,7 +13,7 @@ use lib.Dec.{ltb, leb, eqb}
 use lib.ListN.{length}
 use Rattle.refusal.specs.declared.Refusal.{Refusal}
 use Rattle.refusal.specs.declared.Refusal.TheVariants.{None, Empty, Many, Zero, Long, Order, Cycle, Tight, Report, Stray, Dosing, Room, Size, Spans, Version}
-use Rattle.refusal.specs.declared.Refusal.TheVariants.{Record as NotSound, Dosing, Room, Size, Spans, Version}
+use Rattle.refusal.specs.declared.Refusal.TheVariants.{Record as NotSound}
 use Rattle.refusal.specs.Order.{accepted, given, or_else}
 use Rattle.refusal.proofs.Order.{accepted_none, passes}
 use Rattle.table.specs.declared.Row.{Row}

@@ -12,7 +12,7 @@ use lib.Dec.{ltb}
 use lib.ListN.{length, get_or, take, drop, length-append, length-drop, get_or-append}
 use lib.Seq.{get_or-append-add, get_or-drop, take_at, drop_at}
 use Rattle.refusal.specs.declared.Refusal.{Refusal}
-use Rattle.refusal.specs.declared.Refusal.TheVariants.{None, Room, Report, Stray, Cycle, Dosing, Empty, Long, Many, Order, Record as Unsound, Size, Spans, Tight, Version, Zero}
+use Rattle.refusal.specs.declared.Refusal.TheVariants.{None, Room, Report, Stray, Cycle, Dosing, Empty, Long, Many, Order, Record as NotSound, Size, Spans, Tight, Version, Zero}
 use Rattle.refusal.specs.Order.{accepted, beside}
 use Rattle.refusal.specs.Lent.{overlaid}
 use Rattle.refusal.proofs.Order.{accepted_none, none_first, none_later, given_not}
@@ -65,7 +65,7 @@ report_kinds w rep (Order _) g = elim g [ ]
 report_kinds w rep Cycle g = elim g [ ]
 report_kinds w rep (Tight _) g = elim g [ ]
 report_kinds w rep Room g = elim g [ ]
-report_kinds w rep Unsound g = elim g [ ]
+report_kinds w rep NotSound g = elim g [ ]
 report_kinds w rep Size g = elim g [ ]
 report_kinds w rep Version g = elim g [ ]
 report_kinds w rep Dosing g = elim g [ ]
