@@ -1,4 +1,3 @@
 pub mod Jobs
 pub mod Bags
-pub mod Turns
 pub mod Meaning

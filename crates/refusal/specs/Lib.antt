@@ -1,3 +1,5 @@
 pub mod Numbers
 pub mod Order
 pub mod Lent
+pub mod HandOut
+pub mod Exactly

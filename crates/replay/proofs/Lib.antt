@@ -1,5 +1,3 @@
-pub mod Laying
-pub mod Decimals
 pub mod SlotLines
 pub mod EndLines
 pub mod Chunks

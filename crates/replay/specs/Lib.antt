@@ -1,4 +1,3 @@
-pub mod Texts
 pub mod Chunks
 pub mod Lines
-pub mod Turns
+pub mod Private

@@ -1,2 +1,3 @@
+pub mod Exactly
 pub mod Demand3
 pub mod Demand2

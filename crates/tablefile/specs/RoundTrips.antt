@@ -3,7 +3,8 @@
 use Rattle.std.specs.Prelude.{◌≡◌, List, ℕ, ◌<◌, length}
 use Rattle.table.specs.declared.Table.{Table}
 use Rattle.table.specs.Rows.{used}
-use Rattle.tablefile.specs.Layout.{byte_at, padded}
+use Rattle.texts.specs.BigEndian.{byte_at}
+use Rattle.tablefile.specs.Layout.{padded}
 
 -- what the type [Row; 16] says of each table
 abbrev pub Places : Table → Type 0

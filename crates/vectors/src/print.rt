@@ -1,11 +1,12 @@
 // The text of the answers.
 ghost use Rattle.std.specs.Prelude.{◌≤◌, length};
-ghost use Rattle.vectors.specs.Shares.{Number, Numbers};
+ghost use Rattle.vectors.specs.Private.{Number, Numbers};
 
 use crate::STDOUT_FILENO;
+use jobs::{Job, State};
 use refusal::Refusal;
 use share::Share;
-use slots::{Job, Record, State};
+use slots::Record;
 use table::Table;
 
 pub(crate) fn text(s: &[u8]) {

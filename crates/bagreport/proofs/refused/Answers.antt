@@ -1,5 +1,6 @@
 -- `bagreport::refused` meets its contract.
-use Rattle.bagreport.proofs.SharesFilled.{refused_is}
+use borrow.Author.Rules.{rules}
+use Rattle.bagreport.proofs.Passes.SharesFilled.{refused_is}
 use Rattle.bagreport.proofs.refused.Goals as goal
 
 pub returns : goal.returns

@@ -1,5 +1,6 @@
 -- `bagreport::report` meets its contract.
-use Rattle.bagreport.proofs.ReportCases.{fresh_none, fresh_start, table_told, table_kept}
+use borrow.Author.Rules.{rules}
+use Rattle.bagreport.proofs.Passes.ReportCases.{fresh_none, fresh_start, table_told, table_kept}
 use Rattle.bagreport.proofs.report.Goals as goal
 
 pub admitted-requires : goal.admitted-requires

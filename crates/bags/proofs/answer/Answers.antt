@@ -1,7 +1,8 @@
 -- `bags::answer` meets its contract.
 use native.Mathlib.Omega.{arith}
-use Rattle.bags.proofs.Parts.{part_is, part_few}
+use borrow.Author.Rules.{rules}
 use Rattle.tablefile.proofs.RoundTrips.{was_read}
+use Rattle.bags.proofs.Parts.{part_is, part_few}
 use Rattle.bags.proofs.answer.Goals as goal
 
 pub slice_bounds-report_on-end-in-None : goal.slice_bounds-report_on-end-in-None

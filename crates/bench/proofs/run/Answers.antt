@@ -1,4 +1,5 @@
 -- `bench::run` meets its contract.
+use borrow.Author.Rules.{rules}
 use Rattle.bench.proofs.AtOnce.{ran_list, ran_log, ran_buffer}
 use Rattle.bench.proofs.run.Goals as goal
 

@@ -1,5 +1,6 @@
 -- `slots::fresh` meets its contract.
-use Rattle.slots.proofs.AnswerCases.{fresh_few, fresh_none, fresh_refused}
+use borrow.Author.Rules.{rules}
+use Rattle.slots.proofs.Cases.AnswerCases.{fresh_few, fresh_none, fresh_refused}
 use Rattle.slots.proofs.fresh.Goals as goal
 
 pub fresh_jobs-requires : goal.fresh_jobs-requires

@@ -1,6 +1,7 @@
 -- `tablefile::rows_from` meets its contract.
 use Prim.Native.Nat.{◌-◌}
-use Rattle.tablefile.proofs.ReadCases.{Read}
+use borrow.Author.Rules.{rules}
+use Rattle.tablefile.proofs.ReadCases.{Read, rows_start, rows_step, rows_end}
 use Rattle.tablefile.proofs.rows_from.Given as goal
 
 abbrev pub invariant-loop-i : goal.invariant-loop-i

@@ -1,5 +1,6 @@
 -- `bagreport::spans::bad_order` meets its contract.
-use Rattle.bagreport.proofs.SpanOrder.{or_given, or_not}
+use borrow.Author.Rules.{rules}
+use Rattle.bagreport.proofs.Bagging.SpanOrder.{or_given, or_not}
 use Rattle.bagreport.proofs.spans.bad_order.Goals as goal
 
 pub returns-then-bad_spans : goal.returns-then-bad_spans

@@ -1,10 +1,7 @@
 -- `bench::bags::figure` meets its contract.
-use native.Mathlib.Omega.{arith}
+use borrow.Author.Rules.{rules}
 use Rattle.bench.proofs.BagFigures.{figure_share, figure_refusal}
 use Rattle.bench.proofs.bags.figure.Goals as goal
-
-pub bounds-shares-i : goal.bounds-shares-i
-bounds-shares-i c = omega arith
 
 pub returns-then-i-lt16 : goal.returns-then-i-lt16
 returns-then-i-lt16 c = search (figure_share)

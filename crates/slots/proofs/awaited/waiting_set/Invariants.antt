@@ -1,5 +1,6 @@
 -- `slots::awaited::waiting_set` meets its contract.
-use Rattle.slots.proofs.SetLaws.{Built}
+use borrow.Author.Rules.{rules}
+use Rattle.slots.proofs.Places.SetLaws.{Built, built_start, built_room, built_step, built_end}
 use Rattle.slots.proofs.awaited.waiting_set.Given as goal
 
 abbrev pub invariant-loop-i : goal.invariant-loop-i

@@ -1,5 +1,6 @@
 -- `slots::turn::act` meets its contract.
-use Rattle.slots.proofs.TurnCases.{moved_is}
+use borrow.Author.Rules.{rules}
+use Rattle.slots.proofs.Cases.TurnCases.{moved_is}
 use Rattle.slots.proofs.turn.act.Goals as goal
 
 pub returns : goal.returns

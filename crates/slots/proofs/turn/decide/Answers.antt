@@ -1,5 +1,6 @@
 -- `slots::turn::decide` meets its contract.
-use Rattle.slots.proofs.TurnCases.{turn_is}
+use borrow.Author.Rules.{rules}
+use Rattle.slots.proofs.Cases.TurnCases.{turn_is}
 use Rattle.slots.proofs.turn.decide.Goals as goal
 
 pub returns : goal.returns

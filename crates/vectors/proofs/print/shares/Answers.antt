@@ -1,4 +1,5 @@
 -- `vectors::print::shares` meets its contract.
+use Prim.Native.Nat.{◌-◌, ◌≤◌}
 use borrow.Author.Rules.{rules}
 use Rattle.vectors.proofs.print.shares.Goals as goal
 

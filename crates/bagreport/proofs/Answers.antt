@@ -1,0 +1,4 @@
+pub mod ShareNumbers
+pub mod ExactlyWhen
+pub mod ReportCalls
+pub mod Answered

@@ -1,0 +1,3 @@
+pub mod BagsMarked
+pub mod Marking
+pub mod SpanOrder

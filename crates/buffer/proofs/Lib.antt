@@ -1,0 +1,11 @@
+pub mod ByteCases
+pub mod Written
+pub mod Holding
+pub mod Loops
+pub mod RowJobs
+pub mod ByteHolders
+pub mod HeldRows
+pub mod Builds
+pub mod Refills
+pub mod KeptBuffer
+pub mod Unique

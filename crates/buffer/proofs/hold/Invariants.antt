@@ -1,0 +1,10 @@
+-- `buffer::hold` meets its contract. The loop's invariant: the slots passed are reserved or left, and what is left of the claim is known.
+use borrow.Author.Rules.{rules}
+use Rattle.buffer.proofs.Holding.{Holding, holding_start, holding_place, holding_step, holding_met, holding_end}
+use Rattle.buffer.proofs.hold.Given as goal
+
+abbrev pub invariant-loop-s : goal.invariant-loop-s
+invariant-loop-s l = Holding l.row l.first l.end l.units l.initial.out l.out l.s l.left
+
+abbrev pub decreases-loop-s : goal.decreases-loop-s
+decreases-loop-s l = l.s

@@ -1,0 +1,4 @@
+pub mod FirstSlots
+pub mod Scanning
+pub mod JobWindows
+pub mod JobsFit

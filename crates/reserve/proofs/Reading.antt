@@ -1,0 +1,4 @@
+pub mod Tables
+pub mod FreshClaims
+pub mod Ready
+pub mod Verdict

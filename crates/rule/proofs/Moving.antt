@@ -1,0 +1,4 @@
+pub mod Claims
+pub mod Enough
+pub mod Advance
+pub mod Moves

@@ -1,0 +1,3 @@
+pub mod Remainders
+pub mod Sweep
+pub mod HolderList

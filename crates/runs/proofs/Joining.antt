@@ -1,0 +1,2 @@
+pub mod JoinedLost
+pub mod Joined

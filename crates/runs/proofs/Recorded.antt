@@ -1,0 +1,2 @@
+pub mod FreshReservations
+pub mod RecordJobs

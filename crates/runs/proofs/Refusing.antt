@@ -1,0 +1,3 @@
+pub mod ExactlyWhen
+pub mod ListsWhen
+pub mod HandedBack

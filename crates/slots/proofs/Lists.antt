@@ -1,0 +1,4 @@
+pub mod Passages
+pub mod RunFacts
+pub mod RunCourse
+pub mod JoinedRuns

@@ -1,0 +1,3 @@
+pub mod LostRows
+pub mod LostBound
+pub mod LostSum

@@ -1,0 +1,4 @@
+pub mod Entries
+pub mod EntryLoops
+pub mod SetLaws
+pub mod UnitMoves

@@ -1,0 +1,4 @@
+pub mod Bytes
+pub mod Laying
+pub mod Decimals
+pub mod Unique
