@@ -16,23 +16,20 @@ use Rattle.table.specs.declared.Row.{Row}
 use Rattle.table.specs.declared.Table.{Table}
 use Rattle.table.specs.Windows.{closes}
 use Rattle.table.proofs.Check.{used_count}
-use Rattle.rule.proofs.Numbers.Tests.{side, never}
+use Rattle.rule.proofs.Tests.{side, never}
 use Rattle.reserve.specs.Exactly.{TableGives}
-use Rattle.reserve.proofs.Reading.Verdict.{table_accepted}
-use Rattle.jobs.specs.Works.{work_of}
-use Rattle.jobs.specs.History.{logged}
+use Rattle.reserve.proofs.Verdict.{table_accepted}
 use Rattle.slots.specs.declared.Record.{Record}
 use Rattle.slots.specs.declared.Started.{Started}
 use Rattle.slots.specs.Records.{fresh_record, started_for}
-use Rattle.slots.specs.OneSlot.{what}
-use Rattle.slots.specs.Reports.{Outcome, run_of, rec_after}
-use Rattle.slots.proofs.Lists.RunFacts.{run_whole}
-use Rattle.runs.specs.Exactly.{AcceptedTo, ListStops}
-use Rattle.runs.proofs.Refusing.ExactlyWhen.{going_on}
-use Rattle.runs.proofs.Answering.Calls.{FreshCall, fresh_table, RunCall, run_from, run_table, run_reports, old_log, new_log}
-use Rattle.runs.proofs.Answering.RunAnswers.{Leaves, run_answers, run_same, accepted_enters}
+use Rattle.slots.specs.Reports.{Outcome, run_of}
+use Rattle.slots.specs.History.{work_of, logged}
+use Rattle.slots.specs.Exactly.{ReportGives, AcceptedTo, ListStops}
+use Rattle.slots.proofs.RunFacts.{run_whole}
 use Rattle.share.specs.declared.Share.{Share}
 use Rattle.share.specs.Share.{share_number, share_of}
+use Rattle.runs.proofs.Calls.{FreshCall, fresh_table, RunCall, run_from, run_table, run_reports, old_log, new_log}
+use Rattle.runs.proofs.RunAnswers.{Leaves, run_answers, run_same, accepted_enters}
 use Rattle.dosing.specs.Jobs.{by_primary, fell, any, ending_at, jobs_due}
 use Rattle.dosing.specs.Bags.{bag_mark}
 use Rattle.dosing.specs.Meaning.{Modelled, Fixed, FellIn, NoneBag, ModelledBag, FixedBag, MixedBag, Tells, tally}
@@ -43,10 +40,10 @@ use Rattle.bagreport.specs.declared.BagReport.{BagReport}
 use Rattle.bagreport.specs.Pairs.{bags, start_at, end_at}
 use Rattle.bagreport.specs.Answers.{bag_refusal, row_share, sixteen_shares, no_share, report_of}
 use Rattle.bagreport.specs.Exactly.{FewBytes, OutsideTable, BagGives, many}
-use Rattle.bagreport.proofs.Passes.SharesFilled.{sixteen_long, sixteen_row, sixteen_past}
-use Rattle.bagreport.proofs.Answers.ExactlyWhen.{report_gives}
-use Rattle.bagreport.proofs.Answers.Answered as answered
-use Rattle.bagreport.proofs.Answers.ReportCalls.{ReportCall, bag_table, bag_reports, bag_row, bag_spans, old_bytes, new_bytes, bag_byte, share_at, bag_rows, bag_works, bag_heard, dosing, OfRow, OfBag, bag_row_at, bag_slots}
+use Rattle.bagreport.proofs.SharesFilled.{sixteen_long, sixteen_row, sixteen_past}
+use Rattle.bagreport.proofs.ExactlyWhen.{report_gives}
+use Rattle.bagreport.proofs.Answered as answered
+use Rattle.bagreport.proofs.ReportCalls.{ReportCall, bag_table, bag_reports, bag_row, bag_spans, old_bytes, new_bytes, bag_byte, share_at, bag_rows, bag_works, bag_heard, dosing, OfRow, OfBag, bag_row_at, bag_slots}
 
 module _ (c : ReportCall) where
   abbrev t : Table
@@ -220,8 +217,8 @@ module _ (c : ReportCall) where
 
 -- a list of any length can be run to its end: one whose every report is 0
 pub zeros_run : (rs : List Row) (q : Record) (n : ℕ) → ListStops rs q (replicate n 0) None n
-unfolding AcceptedTo
-zeros_run rs q n = record { accepted = λ s l. going_on (what rs (rec_after rs q (replicate n 0) s)) _ (get_or-replicate n s 0 0 l); stop = inl (refl, sym (length-replicate n 0)) }
+unfolding AcceptedTo ReportGives
+zeros_run rs q n = record { accepted = λ s l. inl (get_or-replicate n s 0 0 l); stop = inl (refl, sym (length-replicate n 0)) }
 
 -- ---- the history is the run's own: a call of `fresh` on the same table, and one of `Record::run` from the record that it gave, on the same table and reports, that is not refused
 module _ (c : ReportCall) (f : FreshCall) (r : RunCall) (started : fresh_table f ≡ bag_table c) (from : run_from r ≡ f.answer.start) (table : run_table r ≡ bag_table c)

@@ -8,10 +8,10 @@ use Rattle.refusal.specs.Lent.{overlaid}
 use Rattle.table.specs.declared.Table.{Table}
 use Rattle.table.specs.Rows.{used}
 use Rattle.reserve.specs.Check.{table_refusal}
-use Rattle.jobs.specs.Works.{Work}
-use Rattle.jobs.specs.History.{logged, reported}
 use Rattle.slots.specs.Records.{fresh_record}
+use Rattle.slots.specs.OneSlot.{Work}
 use Rattle.slots.specs.Reports.{run_of}
+use Rattle.slots.specs.History.{logged, reported}
 use Rattle.share.specs.declared.Share.{Share}
 use Rattle.share.specs.Share.{no_number, share_of}
 use Rattle.dosing.specs.Jobs.{any, by_primary, fell, jobs_due}
@@ -62,6 +62,9 @@ abbrev pub no_share : Share
 no_share = record { mark = 0; done = 0; of = 0; share = no_number }
 
 -- ---- the answer and the lent bytes
+abbrev pub refused_with : Refusal → BagReport
+refused_with f = record { refusal = f; shares = replicate 16 no_share }
+
 unfoldable pub report_of : Table → (reps : List ℕ) (row : ℕ) (spans old : List ℕ) → BagReport
 report_of t reps row spans old =
     let f : Refusal = bag_refusal t reps row spans old in

@@ -3,14 +3,17 @@
 -- Assumes nothing: these are definitions.
 use Rattle.std.specs.Prelude.{◌≡◌, ◌⊎◌, List, ℕ, suc, ◌%◌, ◌≤◌, ◌<◌, length}
 use Rattle.refusal.specs.declared.Refusal.{Refusal}
-use Rattle.refusal.specs.declared.Refusal.TheVariants.{Room, Dosing, Spans}
-use Rattle.refusal.specs.Exactly.{Where, Then}
+use Rattle.refusal.specs.declared.Refusal.TheVariants.{None, Room, Dosing, Spans}
 use Rattle.table.specs.declared.Table.{Table}
 use Rattle.table.specs.Rows.{used}
 use Rattle.reserve.specs.Exactly.{TableGives}
 use Rattle.slots.specs.Records.{fresh_record}
-use Rattle.runs.specs.Exactly.{ListStops}
+use Rattle.slots.specs.Exactly.{Then, ListStops}
 use Rattle.bagreport.specs.Pairs.{bags, start_at, end_at}
+
+-- g is given where P, and nothing is refused where not P
+abbrev pub Where : Type 0 → (g f : Refusal) → Type 0
+Where P g f = (P × (f ≡ g)) ⊎ ((P → ⊥) × (f ≡ None))
 
 -- 8: 'one lent byte for each whole pair'; the lent bytes held `old`
 abbrev pub FewBytes : (spans old : List ℕ) → Type 0

@@ -1,4 +1,4 @@
 pub mod Pairs
 pub mod Answers
 pub mod Exactly
-pub mod Private
+pub mod Turns

@@ -5,13 +5,13 @@ ghost use Rattle.std.specs.Prelude.{◌≡◌, ◌++◌, ◌+◌, ◌-◌, ◌/�
 ghost use Rattle.refusal.specs.declared.Refusal.TheVariants.{None};
 ghost use Rattle.table.specs.Rows.{used};
 ghost use Rattle.reserve.specs.Check.{table_refusal};
-ghost use Rattle.jobs.specs.History.{reported};
 ghost use Rattle.slots.specs.Records.{fresh_record};
 ghost use Rattle.slots.specs.Reports.{run_of};
+ghost use Rattle.slots.specs.History.{reported};
 ghost use Rattle.share.specs.Share.{share_of};
 ghost use Rattle.dosing.specs.Bags.{bag_marks};
-ghost use Rattle.bagreport.specs.Answers.{desk_refusal, works_of, sixteen_shares, no_share, report_of, marks_after};
-ghost use Rattle.bagreport.specs.Private.{refused_with, Counted};
+ghost use Rattle.bagreport.specs.Answers.{desk_refusal, works_of, sixteen_shares, no_share, refused_with, report_of, marks_after};
+ghost use Rattle.bagreport.specs.Turns.{Counted};
 
 use due::Counts;
 use refusal::Refusal;

@@ -1,8 +1,9 @@
 // The bags' bytes, as the deadlines of the dosing row come: spans are read once, in order.
 ghost use Rattle.std.specs.Prelude.{◌≡◌, ◌+◌, ◌/◌, ◌≤◌, ◌<◌, true, false, ◌++◌, length, replicate, drop};
 ghost use Rattle.table.specs.Windows.{starts};
-ghost use Rattle.bagreport.specs.Private.{kind_of, joined_mark, Ordered, Past, Sought, Remarked};
+ghost use Rattle.bagreport.specs.Turns.{kind_of, joined_mark, Ordered, Past, Sought, Remarked};
 
+use crate::due;
 use crate::told::Open;
 use table::Row;
 
@@ -78,11 +79,11 @@ pub(crate) fn mark_job(
     marks: &mut [u8],
     from: usize,
 ) -> usize
-    requires { Ordered spans.now × (length spans.now / 2 ≤ length marks.old) × Past spans.now from s }
+    requires { (0 < r.period) × Ordered spans.now × (length spans.now / 2 ≤ length marks.old) × Past spans.now from s }
     ensures bag { Past spans.now result s }
     ensures bytes { (starts r s ≡ true → Remarked spans.now s (kind_of o.ended) marks.old marks.new) × (starts r s ≡ false → marks.new ≡ marks.old) }
 {
-    if r.starts(s as u64) {
+    if due::starts_at(r, s) {
         put_job(spans, marks, from, s as u64, kind(o))
     } else {
         from

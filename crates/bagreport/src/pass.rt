@@ -5,7 +5,7 @@ ghost use Rattle.table.specs.Rows.{used};
 ghost use Rattle.reserve.specs.Check.{table_refusal};
 ghost use Rattle.slots.specs.Records.{fresh_record};
 ghost use Rattle.slots.specs.Reports.{run_of};
-ghost use Rattle.bagreport.specs.Private.{Logged, Counted, Ordered, Bagged, Beyond, RunTo, TaleAt, no_tale};
+ghost use Rattle.bagreport.specs.Turns.{Logged, Counted, Ordered, Bagged, Beyond, RunTo, TaleAt, no_tale};
 
 use crate::due::Counts;
 use crate::told::Open;
@@ -44,6 +44,15 @@ fn nothing_told() -> Tale
     }
 }
 
+// Where the stretch that begins at slot i ends: after `slots` slots, or with the n slots.
+fn stretch(i: usize, n: usize, slots: u16) -> usize
+    requires { (i < n) × (0 < slots) }
+    ensures { (i < result) × (result ≤ n) × (result - i ≤ slots) }
+{
+    let most = slots as usize;
+    if n - i < most { n } else { i + most }
+}
+
 // How many of the reports left are run at once.
 fn chunk(left: usize) -> usize
     requires { 0 < left }
@@ -76,7 +85,7 @@ fn tell(
     let mut i: usize = 0;
     while i < n {
         let gap = due::to_nearest_end(t, base + i);
-        let stop = table::stretch(i, gap, n);
+        let stop = stretch(i, n, gap);
         while i < stop {
             let ran = log[i];
             let at = told::place_of(ran);

@@ -1,10 +1,9 @@
 // One row's open job, slot by slot: its primary units so far, and how its primary has ended.
 ghost use Rattle.std.specs.Prelude.{◌≡◌, cond, ◌+◌, ◌%◌, ◌^◌, ◌<◌, eqb};
-ghost use Rattle.jobs.specs.Works.{work_of};
-ghost use Rattle.jobs.specs.Endings.{by_report};
-ghost use Rattle.bagreport.specs.Private.{code_of, tried_by, told_by};
+ghost use Rattle.slots.specs.History.{work_of};
+ghost use Rattle.slots.specs.LostUnits.{by_report};
+ghost use Rattle.bagreport.specs.Turns.{code_of, told_by};
 
-use jobs::LogByte;
 use table::Row;
 
 // A row's job whose deadline has not come: 0 its primary goes on, 1 it was reported done, 2 it was reported failed or overran, 3 it was aborted.
@@ -39,28 +38,21 @@ fn first_of(ended: usize, later: usize) -> usize
     if ended == 0 { later } else { ended }
 }
 
-// The open job after a unit of its primary.
-fn tried(r: Row, o: Open, report: u8) -> Open
-    requires { o.units + 1 < 2 ^ 64 }
-    ensures { result ≡ tried_by report r o }
-{
-    let units = o.units + 1;
-    let ended = first_of(o.ended, by_report(report, r.primary, units));
-    Open { units, ended }
-}
-
 // The open job of the byte's row, after its slot.
 pub(crate) fn told(r: Row, o: Open, ran: u8, report: u8) -> Open
     requires { o.units + 1 < 2 ^ 64 }
     ensures { result ≡ told_by (work_of ran) report r o }
 {
-    let byte = LogByte::of(ran);
-    match byte {
-        LogByte::Idle => o,
-        LogByte::Primary(_) => tried(r, o, report),
-        LogByte::Alternate(_) => Open {
-            units: o.units,
-            ended: first_of(o.ended, 3),
-        },
+    if ran == 0 {
+        return o;
+    }
+    if ran <= 16 {
+        let units = o.units + 1;
+        let ended = first_of(o.ended, by_report(report, r.primary, units));
+        return Open { units, ended };
+    }
+    Open {
+        units: o.units,
+        ended: first_of(o.ended, 3),
     }
 }

@@ -24,17 +24,17 @@ unfolding of_kind
 kind_step kind mark marks = refl
 
 -- ---- the count of the first i bags
-pub record KindCounted (marks : List ℕ) (kind n i : ℕ) : Type 0 where
+pub record Counted (marks : List ℕ) (kind n i : ℕ) : Type 0 where
   pub upto : i ≤ length marks
   pub few : n ≤ i
   pub rest : n + of_kind kind (drop i marks) ≡ of_kind kind marks
 
 module _ {marks : List ℕ} {kind : ℕ} where
-  pub counted_start : KindCounted marks kind 0 0
+  pub counted_start : Counted marks kind 0 0
   counted_start = record { upto = omega arith; few = omega arith; rest = omega arith }
 
-  module _ {n i : ℕ} (g : KindCounted marks kind n i) where
-    pub counted_step : {x : ℕ} → i < length marks → x ≡ cond (eqb (get_or marks i 0) kind) 1 0 → x ≤ 1 → KindCounted marks kind (n + x) (i + 1)
+  module _ {n i : ℕ} (g : Counted marks kind n i) where
+    pub counted_step : {x : ℕ} → i < length marks → x ≡ cond (eqb (get_or marks i 0) kind) 1 0 → x ≤ 1 → Counted marks kind (n + x) (i + 1)
     counted_step {x} l e few =
         record {
           upto = omega arith;

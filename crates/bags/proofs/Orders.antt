@@ -1,14 +1,27 @@
--- The numbers of an order, as the code fills them in.
+-- The numbers of an order, as the code puts them together from bytes.
 -- Assumes nothing.
 use mathlib.Core.Path.{◌≡◌, sym, ap, ◌∙◌}
 use mathlib.Core.Logic.{⊎_elim}
 use mathlib.Core.List.{List}
 use Prim.Native.Nat.{ℕ, ◌+◌, ◌*◌, ◌≤◌, ◌<◌}
 use native.Mathlib.Omega.{arith}
-use lib.ListN.{length, get_or, set, length-set}
+use lib.ListN.{length, get_or, set, length-set, get_or-eq_default}
 use lib.Seq.{get_or-set_same, get_or-set_other}
-use Rattle.rule.proofs.Numbers.Tests.{side}
-use Rattle.texts.specs.BigEndian.{long_at}
+use Rattle.rule.proofs.Tests.{side}
+use Rattle.bags.specs.Orders.{word_at, long_at}
+
+module _ (s : List ℕ) (at : ℕ) where
+  -- a byte that the order doesn't have counts as 0
+  pub byte_past : length s ≤ at → 0 ≡ get_or s at 0
+  byte_past h = sym (get_or-eq_default s 0 {n = at} h)
+
+  pub word_by : (high low : ℕ) → high ≡ get_or s at 0 → low ≡ get_or s (at + 1) 0 → high * 256 + low ≡ word_at s at
+  unfolding word_at
+  word_by high low h l = omega (arith, h, l)
+
+  pub long_by : (a b c d : ℕ) → a ≡ word_at s at → b ≡ word_at s (at + 2) → c ≡ word_at s (at + 4) → d ≡ word_at s (at + 6) → ((a * 65536 + b) * 65536 + c) * 65536 + d ≡ long_at s at
+  unfolding long_at
+  long_by a b c d h i j k = omega (arith, h, i, j, k)
 
 -- ---- the spans' numbers, the first i of them filled in
 pub record Filled (s : List ℕ) (n : ℕ) (old new : List ℕ) (i : ℕ) : Type 0 where

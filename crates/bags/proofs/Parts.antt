@@ -9,7 +9,7 @@ use lib.Seq.{length-take-le}
 use Rattle.refusal.specs.declared.Refusal.TheVariants.{None}
 use Rattle.table.specs.declared.Table.{Table}
 use Rattle.reserve.specs.Check.{table_refusal}
-use Rattle.reserve.proofs.Reading.Verdict.{table_accepted}
+use Rattle.reserve.proofs.Verdict.{table_accepted}
 
 pub room_is : (n x : ℕ) → n ≡ length (replicate n x)
 room_is n x = sym (length-replicate n x)

@@ -1,2 +1,2 @@
+pub mod Orders
 pub mod Lines
-pub mod Private

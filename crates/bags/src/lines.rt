@@ -29,6 +29,13 @@ pub(crate) fn print_bag(bag: usize, start: u64, end: u64, mark: u8) {
     print_kind(mark);
 }
 
+// One where a bag is of a kind.
+fn one_if(mark: u8, kind: u8) -> usize
+    ensures { (result ≡ cond (eqb mark kind) 1 0) × (result ≤ 1) }
+{
+    if mark == kind { 1 } else { 0 }
+}
+
 // How many of the bags are of a kind.
 fn of_kind(marks: &[u8], kind: u8) -> usize
     ensures { (result ≡ of_kind kind marks.now) × (result ≤ length marks.now) }
@@ -36,9 +43,7 @@ fn of_kind(marks: &[u8], kind: u8) -> usize
     let mut n: usize = 0;
     let mut i: usize = 0;
     while i < marks.len() {
-        if marks[i] == kind {
-            n += 1;
-        }
+        n += one_if(marks[i], kind);
         i += 1;
     }
     n

@@ -21,9 +21,11 @@ pub(crate) const STDOUT_FILENO: i32 = 1;
 
 // 'refused 15 row 0'
 fn print_refusal(f: Refusal) {
-    let mut out = [0u8; 20];
-    let n = texts::put_refusal_line(&mut out, f);
-    io::write_all(STDOUT_FILENO, &out[..n]);
+    io::write_all(STDOUT_FILENO, b"refused ");
+    io::print_decimal(STDOUT_FILENO, refusal::number(f) as u64);
+    io::write_all(STDOUT_FILENO, b" row ");
+    io::print_decimal(STDOUT_FILENO, refusal::named_row(f) as u64);
+    io::write_all(STDOUT_FILENO, b"\n");
 }
 
 // A line for each bag, and the line that counts them.
@@ -95,16 +97,16 @@ fn answer(order: &[u8]) {
     let mut spans = [0u64; 2048];
     form::fill_spans(order, n, &mut spans);
     let head = 3 + 8 * n;
-    let size = texts::word(order, head) as usize;
-    let from = texts::least(head + 2, order.len());
-    let to = texts::least(head + 2 + size, order.len());
+    let size = form::word(order, head) as usize;
+    let from = form::no_later(head + 2, order.len());
+    let to = form::no_later(head + 2 + size, order.len());
     let reading = tablefile::read(&order[from..to]);
     let f = reading.refusal;
     match f {
         Refusal::None => report_on(
             reading.table,
             &order[to..],
-            texts::byte(order, 0),
+            form::byte(order, 0),
             &spans[..n],
         ),
         _ => print_refusal(f),

@@ -4,11 +4,11 @@ use mathlib.Core.Path.{◌≡◌, refl, ap, ◌∙◌}
 use Prim.Native.Nat.{ℕ, ◌+◌, ◌*◌, ◌<◌, ◌≤◌}
 use native.Mathlib.Omega.{arith}
 use borrow.Author.Tests.{lt-ltb, le-ltb}
-use Rattle.jobs.specs.declared.State.{State}
-use Rattle.jobs.specs.declared.State.TheVariants.{Waiting, Failed, Done}
-use Rattle.jobs.specs.declared.Job.{Job}
-use Rattle.jobs.specs.Jobs.{job_at}
+use Rattle.slots.specs.declared.State.{State}
+use Rattle.slots.specs.declared.State.TheVariants.{Waiting, Failed, Done}
+use Rattle.slots.specs.declared.Job.{Job}
 use Rattle.slots.specs.declared.Ran.{Ran}
+use Rattle.slots.specs.Records.{job_at}
 use Rattle.bench.specs.Numbers.{state_number, job_number, figure_of}
 
 pub number_waiting : (s : State) → s ≡ Waiting → 0 ≡ state_number s

@@ -1,11 +1,11 @@
 -- A run's answer as numbers, for one that reads it from outside.
 -- Assumes nothing: these are definitions.
 use Rattle.std.specs.Prelude.{ℕ, ◌+◌, ◌*◌, cond, ltb}
-use Rattle.jobs.specs.declared.State.{State}
-use Rattle.jobs.specs.declared.State.TheVariants.{Waiting, Failed, Done}
-use Rattle.jobs.specs.declared.Job.{Job}
-use Rattle.jobs.specs.Jobs.{job_at}
+use Rattle.slots.specs.declared.State.{State}
+use Rattle.slots.specs.declared.State.TheVariants.{Waiting, Failed, Done}
+use Rattle.slots.specs.declared.Job.{Job}
 use Rattle.slots.specs.declared.Ran.{Ran}
+use Rattle.slots.specs.Records.{job_at}
 
 unfoldable pub state_number : State → ℕ
 state_number Waiting = 0

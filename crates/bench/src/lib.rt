@@ -6,9 +6,8 @@ ghost use Rattle.bench.specs.Bags.{even_report, even_marks, bag_figure};
 ghost use Rattle.bench.specs.Lists.{list_ran, list_log, list_buffer, single_slots, single_log};
 ghost use Rattle.bench.specs.Numbers.{state_number, job_number, figure_of};
 
-use jobs::{Job, State};
 use refusal::Refusal;
-use slots::Ran;
+use slots::{Job, Ran, State};
 
 mod bags;
 
@@ -60,14 +59,7 @@ fn figure(ran: Ran, i: usize) -> u64
 }
 
 // A run, and one figure of its answer.
-#[unsafe(no_mangle)]
-pub extern "C" fn bench_run(
-    file: &[u8],
-    reports: &[u8],
-    log: &mut [u8],
-    buffer: &mut [u8],
-    i: usize,
-) -> u64
+pub fn bench_run(file: &[u8], reports: &[u8], log: &mut [u8], buffer: &mut [u8], i: usize) -> u64
     ensures figure { result ≡ figure_of (list_ran file.now reports.now log.old buffer.old) i }
     ensures bytes { log.new ≡ list_log file.now reports.now log.old buffer.old }
     ensures buffer { buffer.new ≡ list_buffer file.now reports.now log.old buffer.old }
@@ -77,8 +69,7 @@ pub extern "C" fn bench_run(
 }
 
 // The same slots by single ones, up to a refusal or to the log's end. Answers the slots accepted.
-#[unsafe(no_mangle)]
-pub extern "C" fn bench_steps(file: &[u8], reports: &[u8], log: &mut [u8]) -> usize
+pub fn bench_steps(file: &[u8], reports: &[u8], log: &mut [u8]) -> usize
     ensures slots { result ≡ length (single_slots file.now reports.now log.old) }
     ensures bytes { log.new ≡ single_log file.now reports.now log.old }
 {
@@ -110,8 +101,7 @@ pub extern "C" fn bench_steps(file: &[u8], reports: &[u8], log: &mut [u8]) -> us
 
 // The bag report over bags of the same size, one after the other from slot 0, as many as there are lent bytes, at most 1,024. Answers one figure of it: a place's two counts for an
 // i below 16, the refusal's number for any other.
-#[unsafe(no_mangle)]
-pub extern "C" fn bench_bags(
+pub fn bench_bags(
     file: &[u8],
     reports: &[u8],
     row: u8,

@@ -11,16 +11,15 @@ use Rattle.reserve.specs.Check.{table_check}
 use Rattle.reserve.specs.Lists.{reservation_list, first_slots}
 use Rattle.tablefile.specs.Layout.{file_bytes, padded}
 use Rattle.tablefile.specs.Answers.{read_as}
-use Rattle.jobs.specs.declared.State.{State}
-use Rattle.jobs.specs.declared.State.TheVariants.{Waiting}
-use Rattle.jobs.specs.declared.Job.{Job}
-use Rattle.jobs.specs.Jobs.{no_job}
-use Rattle.jobs.specs.Sums.{sum}
+use Rattle.slots.specs.declared.State.{State}
+use Rattle.slots.specs.declared.State.TheVariants.{Waiting}
+use Rattle.slots.specs.declared.Job.{Job}
 use Rattle.slots.specs.declared.Record.{Record}
 use Rattle.slots.specs.declared.Ran.{Ran}
-use Rattle.slots.specs.Records.{started_for}
+use Rattle.slots.specs.Records.{no_job, started_for}
 use Rattle.slots.specs.Sound.{claims_of}
 use Rattle.slots.specs.Answers.{asked_of, ran_by, log_after}
+use Rattle.slots.specs.LostUnits.{sum}
 
 abbrev row : ℕ → ℕ → ℕ → Row
 row t p a = record { period = t; primary = p; alternate = a }

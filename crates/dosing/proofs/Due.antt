@@ -10,14 +10,15 @@ use lib.Dec.{ltb, leb}
 use borrow.Author.Tests.{ltb-true, lt-ltb, leb-true, le-leb}
 use Rattle.table.specs.declared.Row.{Row}
 use Rattle.table.specs.Rows.{row_at}
-use Rattle.table.specs.Windows.{closes, window_end, job_in, start_of}
+use Rattle.table.specs.Windows.{closes, window_end}
 use Rattle.rule.specs.Slots.{unit, within}
-use Rattle.rule.proofs.Numbers.Tests.{split, side, false_if, both_ways, and_left, and_right, and_both}
-use Rattle.rule.proofs.Numbers.Counting.{within_step, within_none, within_less, within_same, within_skip, within_more, within_all, within_join, within_parted}
-use Rattle.jobs.specs.Jobs.{new_job}
-use Rattle.jobs.specs.Works.{Work}
-use Rattle.jobs.specs.Endings.{Ending, going, past, done, failed, overran, aborted, ending_of}
+use Rattle.rule.proofs.Tests.{split, side, false_if, both_ways, and_left, and_right, and_both}
+use Rattle.rule.proofs.Counting.{within_step, within_none, within_less, within_same, within_skip, within_more, within_all, within_join, within_parted}
+use Rattle.slots.specs.Records.{new_job}
+use Rattle.slots.specs.OneSlot.{Work}
+use Rattle.slots.specs.LostUnits.{Ending, going, past, done, failed, overran, aborted, ending_of}
 use Rattle.dosing.specs.Jobs.{by_primary, by_alternate, fell, any, ending_at, jobs_due}
+use Rattle.dosing.specs.Turns.{job_in, start_of}
 use Rattle.dosing.proofs.JobWindows.{start_end, closes_zero, slot_inside, job_closes, job_due}
 
 -- ---- counting, where a test fails everywhere

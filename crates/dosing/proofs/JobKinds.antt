@@ -15,28 +15,25 @@ use Rattle.table.specs.declared.Row.{Row}
 use Rattle.table.specs.Rows.{row_at}
 use Rattle.table.specs.Windows.{opens, closes}
 use Rattle.table.proofs.Windows.{opens_first}
-use Rattle.rule.proofs.Numbers.Tests.{never, false_if}
-use Rattle.jobs.specs.declared.State.TheVariants.{Waiting, Done}
-use Rattle.jobs.specs.declared.Job.{Job}
-use Rattle.jobs.specs.Jobs.{new_job}
-use Rattle.jobs.specs.Works.{Work, primary, is_primary}
-use Rattle.jobs.specs.History.{logged, reported, primaries, alternates}
-use Rattle.jobs.specs.Endings.{Ending, going, overran, aborted, by_report, ended_at, units_run, ending_of}
-use Rattle.jobs.proofs.JobFacts.{new_job_lem}
-use Rattle.jobs.proofs.Acts.{Act, rests, tries, falls_back}
-use Rattle.jobs.proofs.JobStory.{primary_is, Window, DoneIn, story, at_end, becomes_done, stays_done}
-use Rattle.jobs.proofs.LostJobs.{ending_none, ending_rests, ending_tried, ending_fallen, ending_stays, together}
+use Rattle.rule.proofs.Tests.{never, false_if}
+use Rattle.slots.specs.declared.State.TheVariants.{Waiting, Done}
+use Rattle.slots.specs.declared.Job.{Job}
 use Rattle.slots.specs.declared.Record.{Record}
-use Rattle.slots.specs.Records.{fresh_of}
-use Rattle.slots.specs.OneSlot.{what}
+use Rattle.slots.specs.Records.{new_job, fresh_of}
+use Rattle.slots.specs.OneSlot.{Work, primary}
 use Rattle.slots.specs.Reports.{run_of, rec_after}
+use Rattle.slots.specs.History.{logged, reported, is_primary, primaries, alternates}
+use Rattle.slots.specs.LostUnits.{Ending, going, overran, aborted, by_report, ended_at, units_run, ending_of}
 use Rattle.slots.specs.Course.{Course}
-use Rattle.slots.proofs.Soundness.SoundRecord.{Usable}
-use Rattle.slots.proofs.Lists.RunFacts.{run_whole}
-use Rattle.slots.proofs.Lists.RunCourse.{run_course}
-use Rattle.runs.specs.Exactly.{AcceptedTo}
-use Rattle.runs.proofs.Refusing.ExactlyWhen.{heard_few}
-use Rattle.runs.proofs.Refusing.ListsWhen.{list_stops}
+use Rattle.slots.specs.Exactly.{ReportGives, AcceptedTo}
+use Rattle.slots.proofs.JobFacts.{new_job_lem}
+use Rattle.slots.proofs.Acts.{Act, rests, tries, falls_back}
+use Rattle.slots.proofs.SoundRecord.{Usable}
+use Rattle.slots.proofs.JobStory.{primary_is, Window, DoneIn, story, at_end, becomes_done, stays_done}
+use Rattle.slots.proofs.LostJobs.{ending_none, ending_rests, ending_tried, ending_fallen, ending_stays, together}
+use Rattle.slots.proofs.RunFacts.{run_whole}
+use Rattle.slots.proofs.RunCourse.{run_course}
+use Rattle.slots.proofs.ListsWhen.{list_stops}
 use Rattle.runs.proofs.Courses.{job_window}
 use Rattle.dosing.specs.Jobs.{by_primary, fell, ending_at}
 use Rattle.dosing.specs.Meaning.{Modelled, Fixed, FellIn}
@@ -104,13 +101,13 @@ module _ {k : ℕ} {r : Row} {s n : ℕ} {works : ℕ → Work} {reports : ℕ �
       ending_tried works reports k r.primary s (new_job r) m w (going_there m l (waits_there m l w)) ∙ ap (by_report (reports (s + m)) r.primary) (units_are (suc m))
 
   -- a test of endings that only a report can meet
-  module _ (test : Ending → Bool) (not-Going : test going ≡ false) (not-aborted : test aborted ≡ false) where
+  module _ (test : Ending → Bool) (not_going : test going ≡ false) (not_aborted : test aborted ≡ false) where
     -- one of the first m slots had such a report
     abbrev pub Told : ℕ → Type 0
     Told m = (i : ℕ) × (i < m) × (works (s + i) ≡ primary k) × (test (by_report (reports (s + i)) r.primary (primaries k works s (s + suc i))) ≡ true)
 
     told_found : (m : ℕ) → m ≤ n → test (ending m) ≡ true → Told m
-    told_found zero l h = never h (ap test first_going ∙ not-Going)
+    told_found zero l h = never h (ap test first_going ∙ not_going)
     told_found (suc m) l h = go (told_found m (omega arith)) (win.acts m l)
       where
         longer : Told m → Told (suc m)
@@ -120,7 +117,7 @@ module _ {k : ℕ} {r : Row} {s n : ℕ} {works : ℕ → Work} {reports : ℕ �
         go ih (rests x y e) = longer (ih (sym (ap test (ending_rests works reports k r.primary s (new_job r) m x y)) ∙ h))
         go ih (tries v x e) = (m, omega arith, v, sym (ap test (ends_there m l v)) ∙ h)
         go ih (falls_back v x e) =
-            ⊎_elim (λ z. never h (ap test (ending_fallen works reports k r.primary s (new_job r) m v z.1) ∙ not-aborted))
+            ⊎_elim (λ z. never h (ap test (ending_fallen works reports k r.primary s (new_job r) m v z.1) ∙ not_aborted))
             (λ z. longer (ih (sym (ap test (ending_stays works reports k r.primary s (new_job r) m z.1)) ∙ h)))
             (together win m (omega arith))
 
@@ -133,7 +130,7 @@ module _ {k : ℕ} {r : Row} {s n : ℕ} {works : ℕ → Work} {reports : ℕ �
         subst (λ (i : ℕ). test (ending (suc i)) ≡ true) q (ap test (ends_there f.0 (omega arith) f.2) ∙ f.3))
         (λ (u : suc f.0 < suc m).
         let before : test (ending m) ≡ true = told_stands m (omega arith) (f.0, omega arith, f.2, f.3) in
-        ap test (ending_stays works reports k r.primary s (new_job r) m (λ g. never before (ap test g ∙ not-Going))) ∙ before)
+        ap test (ending_stays works reports k r.primary s (new_job r) m (λ g. never before (ap test g ∙ not_going))) ∙ before)
         (eq-or-lt_of_le f.1)
 
     pub told : (test (ending_of works reports k r.primary s (new_job r) n) ≡ true) ↔ Told n
@@ -177,7 +174,7 @@ pub record FromFresh (rs : List Row) (N : ℕ) (works : ℕ → Work) (reports :
 -- a run of which no report is refused
 pub run_from_fresh : (rs : List Row) → Usable rs → (reps : List ℕ) → (run_of rs (fresh_of rs) reps).refusal ≡ None
     → FromFresh rs (length reps) (logged (run_of rs (fresh_of rs) reps).log) (reported reps)
-unfolding AcceptedTo
+unfolding AcceptedTo ReportGives
 run_from_fresh rs ok reps none =
     let log : List ℕ = (run_of rs (fresh_of rs) reps).log in
     let whole : length log ≡ length reps = run_whole rs (fresh_of rs) reps none in
@@ -185,7 +182,10 @@ run_from_fresh rs ok reps none =
       usable = ok;
       recs = rec_after rs (fresh_of rs) reps;
       course = subst (λ (n : ℕ). Course rs (fresh_of rs) n (rec_after rs (fresh_of rs) reps) (logged log) (reported reps)) whole (run_course rs ok.few (fresh_of rs) reps);
-      heard = λ t l. heard_few (what rs (rec_after rs (fresh_of rs) reps t)) (reported reps t) ((list_stops rs (fresh_of rs) reps).accepted t (omega arith));
+      heard = λ t l.
+          ⊎_elim (λ (e : reported reps t ≡ 0). omega arith)
+          (λ h. ⊎_elim (λ (e : reported reps t ≡ 1). omega arith) (λ (e : reported reps t ≡ 2). omega arith) h.0)
+          ((list_stops rs (fresh_of rs) reps).accepted t (omega arith));
     }
 
 -- ---- a job whose deadline has come

@@ -8,9 +8,10 @@ use native.Mathlib.Nat.{le_trans, lt-div-mul-add, div-mul-le_self, div-eq_of_lt-
 use native.Mathlib.Omega.{arith}
 use borrow.Author.Tests.{eqb-true, eq-eqb}
 use Rattle.table.specs.declared.Row.{Row}
-use Rattle.table.specs.Windows.{opens, closes, starts, window_end, job_in, start_of}
+use Rattle.table.specs.Windows.{opens, closes, starts, window_end}
 use Rattle.table.proofs.Windows.{end_is}
-use Rattle.rule.proofs.Numbers.Tests.{side, never}
+use Rattle.rule.proofs.Tests.{side, never}
+use Rattle.dosing.specs.Turns.{job_in, start_of}
 
 start_is : (r : Row) (t : ℕ) → start_of r t ≡ t / r.period * r.period
 unfolding opens

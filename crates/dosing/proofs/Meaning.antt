@@ -14,10 +14,10 @@ use Rattle.table.specs.declared.Row.{Row}
 use Rattle.table.specs.Rows.{row_at}
 use Rattle.table.specs.Windows.{closes}
 use Rattle.table.proofs.Windows.{opens_first}
-use Rattle.rule.proofs.Numbers.Tests.{both_ways}
-use Rattle.rule.proofs.Numbers.Counting.{within_same}
-use Rattle.jobs.specs.Works.{Work}
-use Rattle.jobs.specs.Endings.{Ending}
+use Rattle.rule.proofs.Tests.{both_ways}
+use Rattle.rule.proofs.Counting.{within_same}
+use Rattle.slots.specs.OneSlot.{Work}
+use Rattle.slots.specs.LostUnits.{Ending}
 use Rattle.dosing.specs.Jobs.{by_primary, by_alternate, fell, any, ending_at, jobs_due}
 use Rattle.dosing.specs.Bags.{mark_of, bag_mark}
 use Rattle.dosing.specs.Meaning.{LooksAt, Modelled, Fixed, FellIn, Some, Each, NoneBag, ModelledBag, FixedBag, MixedBag, Tells, tally}

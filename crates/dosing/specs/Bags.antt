@@ -2,7 +2,7 @@
 -- Assumes nothing: these are definitions.
 use Rattle.std.specs.Prelude.{ℕ, zero, suc, List, [], ◌∷◌}
 use Rattle.table.specs.declared.Row.{Row}
-use Rattle.jobs.specs.Works.{Work}
+use Rattle.slots.specs.OneSlot.{Work}
 use Rattle.dosing.specs.Jobs.{by_primary, by_alternate, jobs_due}
 
 -- by how many of the jobs it looks at were dosed by primary, and how many by alternate

@@ -5,9 +5,9 @@ use Rattle.table.specs.declared.Row.{Row}
 use Rattle.table.specs.Rows.{row_at}
 use Rattle.table.specs.Windows.{opens, closes}
 use Rattle.rule.specs.Slots.{within}
-use Rattle.jobs.specs.Jobs.{new_job}
-use Rattle.jobs.specs.Works.{Work}
-use Rattle.jobs.specs.Endings.{Ending, going, past, done, failed, overran, aborted, ending_of}
+use Rattle.slots.specs.Records.{new_job}
+use Rattle.slots.specs.OneSlot.{Work}
+use Rattle.slots.specs.LostUnits.{Ending, going, past, done, failed, overran, aborted, ending_of}
 
 -- 'by primary': its primary was reported done
 abbrev pub by_primary : Ending → Bool

@@ -5,8 +5,8 @@ use Rattle.table.specs.declared.Row.{Row}
 use Rattle.table.specs.Rows.{row_at}
 use Rattle.table.specs.Windows.{opens, closes}
 use Rattle.rule.specs.Slots.{within}
-use Rattle.jobs.specs.Works.{Work, primary}
-use Rattle.jobs.specs.History.{primaries, alternates}
+use Rattle.slots.specs.OneSlot.{Work, primary}
+use Rattle.slots.specs.History.{primaries, alternates}
 use Rattle.runs.specs.Demand3.{Finished}
 
 -- 'A bag looks at the row's jobs whose deadline is after its start and no later than its end'

@@ -7,19 +7,18 @@ use native.Mathlib.Omega.{arith}
 use lib.ListN.{length, take, drop}
 use lib.Seq.{take_at}
 use Rattle.refusal.specs.declared.Refusal.TheVariants.{None}
-use Rattle.refusal.specs.declared.Handed.{Handed}
-use Rattle.refusal.specs.HandOut.{handed_refusal, handed, handed_over}
-use Rattle.refusal.proofs.HandedOut.{out_places, out_laid}
 use Rattle.table.specs.declared.Table.{Table}
 use Rattle.table.specs.declared.Checked.{Checked}
 use Rattle.table.specs.Rows.{used}
+use Rattle.reserve.specs.declared.Handed.{Handed}
 use Rattle.reserve.specs.Check.{table_refusal, table_check}
 use Rattle.reserve.specs.Lists.{first_slots}
-use Rattle.reserve.specs.Private.{Ready}
-use Rattle.reserve.proofs.Reading.Verdict.{checked_refusal, table_ready}
-use Rattle.reserve.proofs.Firsts.JobsFit.{firsts_fit}
-use Rattle.plan.specs.Lines.{plan_lines}
-use Rattle.plan.specs.Private.{Begins}
+use Rattle.reserve.specs.HandOut.{handed_refusal, handed, handed_over}
+use Rattle.reserve.specs.Turns.{Ready}
+use Rattle.reserve.proofs.Verdict.{checked_refusal, table_ready}
+use Rattle.reserve.proofs.HandedOut.{out_used, out_places}
+use Rattle.reserve.proofs.JobsFit.{firsts_fit}
+use Rattle.plan.specs.Lines.{plan_lines, Begins}
 use Rattle.plan.proofs.PrintedLines.{lines_count}
 
 module _ (t : Table) (a : table_refusal t ≡ None) where
@@ -28,13 +27,13 @@ module _ (t : Table) (a : table_refusal t ≡ None) where
 
   -- 4,096 places are room enough
   module _ (old : List ℕ) (l : length old ≡ 4096) where
-    fits : handed_refusal (table_refusal t) (first_slots (used t)) old ≡ None
+    fits : handed_refusal t (first_slots (used t)) old ≡ None
     fits = firsts_fit t old a (omega arith)
 
-    pub begins : (new : List ℕ) → new ≡ handed_over (table_refusal t) (first_slots (used t)) old → Begins (first_slots (used t)) new
+    pub begins : (new : List ℕ) → new ≡ handed_over t (first_slots (used t)) old → Begins (first_slots (used t)) new
     begins new e =
         let firsts = first_slots (used t) in
-        ap (λ (x : List ℕ). take (length firsts) x) (e ∙ out_laid (table_refusal t) firsts old fits) ∙ take_at firsts (drop (length firsts) old) (length firsts) refl
+        ap (λ (x : List ℕ). take (length firsts) x) (e ∙ out_places t firsts old fits) ∙ take_at firsts (drop (length firsts) old) (length firsts) refl
 
-    pub counted : (h : Handed) → h ≡ handed (table_refusal t) (first_slots (used t)) old → h.places ≡ length (plan_lines (used t))
-    counted h e = ap (λ (x : Handed). x.places) e ∙ out_places (table_refusal t) (first_slots (used t)) old fits ∙ lines_count (used t)
+    pub counted : (h : Handed) → h ≡ handed t (first_slots (used t)) old → h.used ≡ length (plan_lines (used t))
+    counted h e = ap (λ (x : Handed). x.used) e ∙ out_used t (first_slots (used t)) old fits ∙ lines_count (used t)

@@ -2,7 +2,8 @@
 -- Assumes nothing.
 use mathlib.Core.Path.{◌≡◌, refl, sym, ap, ◌∙◌}
 use mathlib.Core.List.{List, ◌∷◌, ◌++◌, map, map-append}
-use Prim.Native.Nat.{ℕ, zero, suc, ◌+◌, ◌-◌, ◌*◌, ◌≤◌, ◌<◌, ◌^◌}
+use Prim.Native.Nat.{ℕ, zero, suc, ◌+◌, ◌-◌, ◌*◌, ◌/◌, ◌≤◌, ◌<◌, ◌^◌}
+use native.Mathlib.Nat.{div-le_self}
 use native.Mathlib.Numerals.{add-one}
 use native.Mathlib.Omega.{arith}
 use lib.ListN.{length, get_or, length-take, length-map, get_or-append, get_or-map}
@@ -10,17 +11,15 @@ use lib.Seq.{get_or-append-add, get_or-take}
 use Rattle.table.specs.declared.Row.{Row}
 use Rattle.table.specs.declared.Table.{Table}
 use Rattle.table.specs.Rows.{used, blank, row_at}
-use Rattle.table.specs.Windows.{opens, jobs_in}
-use Rattle.table.proofs.Windows.{jobs_most}
+use Rattle.table.specs.Windows.{opens}
 use Rattle.rule.specs.Rule.{first}
 use Rattle.reserve.specs.Tables.{ends, whole}
 use Rattle.reserve.specs.Lists.{jobs_of, job_firsts, row_firsts, first_slots}
-use Rattle.reserve.specs.Private.{Ready}
-use Rattle.reserve.proofs.Reading.Ready.{cycle_fits, size}
-use Rattle.reserve.proofs.Firsts.Scanning.{CountedTo, jobs_are, count_start, count_step, count_room}
+use Rattle.reserve.specs.Turns.{Ready}
+use Rattle.reserve.proofs.Ready.{cycle_fits, size}
+use Rattle.reserve.proofs.Scanning.{CountedTo, jobs_are, count_start, count_step, count_room}
 use Rattle.plan.specs.declared.Line.{Line}
-use Rattle.plan.specs.Lines.{job_lines, row_lines, plan_lines}
-use Rattle.plan.specs.Private.{no_line, Begins}
+use Rattle.plan.specs.Lines.{job_lines, row_lines, plan_lines, no_line, Begins}
 
 module _ (rs : List Row) where
   -- ---- the first slots of the lines are the list of first slots
@@ -83,12 +82,18 @@ module _ {t : Table} {cycle : ℕ} (r : Ready t cycle) (e : length t.rows ≡ 16
       let n : length (used t) ≡ t.n - 0 = omega (arith, size r e) in
       record { counted = rw z (count_start r e); small = omega arith; same = ap (λ (m : ℕ). get_or (row_lines (used t) 0 m) k no_line) n }
 
-  module _ {k left i : ℕ} (g : Looking t k left i) (l : i < t.n) (jobs : ℕ) (counted : jobs ≡ jobs_in (get_or t.rows i blank) cycle) where
+  module _ {k left i : ℕ} (g : Looking t k left i) (l : i < t.n) where
+    abbrev jobs : ℕ
+    jobs = cycle / (get_or t.rows i blank).period
+
     are : jobs ≡ jobs_of (used t) i
-    are = jobs_are r e i l jobs counted
+    are = jobs_are r e i l
 
     rest : t.n - i ≡ suc (t.n - suc i)
     rest = omega arith
+
+    pub jobs_fit_word : jobs < 2 ^ 64
+    jobs_fit_word = omega (arith, cycle_fits r, div-le_self cycle (get_or t.rows i blank).period)
 
     pub look_on : jobs ≤ left → Looking t k (left - jobs) (i + 1)
     look_on h =
@@ -105,7 +110,7 @@ module _ {t : Table} {cycle : ℕ} (r : Ready t cycle) (e : length t.rows ≡ 16
 
     -- the line is one of row i's
     pub job_fits_word : left < jobs → left + 1 < 2 ^ 64
-    job_fits_word h = omega (arith, cycle_fits r, jobs_most (get_or t.rows i blank) cycle)
+    job_fits_word h = omega (arith, cycle_fits r, div-le_self cycle (get_or t.rows i blank).period)
 
     pub place_fits_word : left < jobs → k * 2 < 2 ^ 64
     place_fits_word h =

@@ -1,6 +1,6 @@
 -- The lines that the program prints for a table that is accepted.
 -- Assumes nothing: these are definitions.
-use Rattle.std.specs.Prelude.{ℕ, zero, suc, List, [], ◌∷◌, ◌++◌, length}
+use Rattle.std.specs.Prelude.{ℕ, zero, suc, ◌≡◌, List, [], ◌∷◌, ◌++◌, length, take}
 use Rattle.table.specs.declared.Row.{Row}
 use Rattle.table.specs.Rows.{row_at}
 use Rattle.table.specs.Windows.{opens}
@@ -21,3 +21,11 @@ row_lines rs i (suc n) = job_lines rs i 1 (jobs_of rs i) ++ row_lines rs (suc i)
 
 unfoldable pub plan_lines : List Row → List Line
 plan_lines rs = row_lines rs 0 (length rs)
+
+-- past the last line
+abbrev pub no_line : Line
+no_line = record { row = 0; job = 0; first = 0 }
+
+-- a list that stands at the start of another
+abbrev pub Begins : List ℕ → List ℕ → Type 0
+Begins xs list = take (length xs) list ≡ xs

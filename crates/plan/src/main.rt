@@ -6,9 +6,8 @@ ghost use Rattle.refusal.specs.declared.Refusal.TheVariants.{None};
 ghost use Rattle.table.specs.Rows.{used};
 ghost use Rattle.reserve.specs.Check.{table_refusal};
 ghost use Rattle.reserve.specs.Lists.{first_slots};
-ghost use Rattle.reserve.specs.Private.{Ready};
-ghost use Rattle.plan.specs.Lines.{plan_lines};
-ghost use Rattle.plan.specs.Private.{no_line, Begins};
+ghost use Rattle.reserve.specs.Turns.{Ready};
+ghost use Rattle.plan.specs.Lines.{plan_lines, no_line, Begins};
 
 use refusal::Refusal;
 use table::Table;
@@ -28,9 +27,11 @@ struct Line {
 
 // 'refused 7 row 2'
 fn print_refusal(f: Refusal) {
-    let mut out = [0u8; 20];
-    let n = texts::put_refusal_line(&mut out, f);
-    io::write_all(STDOUT_FILENO, &out[..n]);
+    io::write_all(STDOUT_FILENO, b"refused ");
+    io::print_decimal(STDOUT_FILENO, refusal::number(f) as u64);
+    io::write_all(STDOUT_FILENO, b" row ");
+    io::print_decimal(STDOUT_FILENO, refusal::named_row(f) as u64);
+    io::write_all(STDOUT_FILENO, b"\n");
 }
 
 // 'cycle 30 jobs 11'
@@ -62,7 +63,7 @@ fn line_at(t: Table, cycle: u16, firsts: &[u16], k: usize) -> Line
     let mut i: u8 = 0;
     while i < n {
         let r = t.rows[i as usize];
-        let jobs = r.jobs_in(cycle) as usize;
+        let jobs = (cycle / r.period) as usize;
         if left < jobs {
             return Line {
                 row: i + 1,
@@ -100,7 +101,7 @@ fn print_plan(t: Table)
     let cycle = checked.cycle;
     let mut firsts = [0u16; 4096];
     let handed = reserve::first_slots(t, &mut firsts);
-    let jobs = handed.places;
+    let jobs = handed.used;
     print_head(cycle, jobs);
     print_lines(t, cycle, &firsts, jobs);
 }

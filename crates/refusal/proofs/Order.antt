@@ -1,54 +1,53 @@
 -- Refusals one after another: which of two is given, and what an acceptance says of both.
 -- Assumes nothing.
-use mathlib.Core.Path.{◌≡◌, refl, sym, ap, ◌∙◌, subst}
-use mathlib.Core.Logic.{◌⊎◌, inl, inr}
-use mathlib.Core.Bool.{Bool, true, false, cond, true≢false}
-use mathlib.Core.List.{List, [], ◌∷◌}
+use mathlib.Core.Path.{◌≡◌, refl, ap, ◌∙◌}
+use mathlib.Core.Bool.{Bool, true, false, cond}
 use Prim.Native.Nat.{ℕ, ◌<◌}
 use native.Mathlib.Omega.{arith}
 use borrow.Author.Tests.{eqb-true}
-use types.Run.{OneOf, miss}
-use denote.Enum.Declared.{tag_of}
 use Rattle.refusal.specs.declared.Refusal.{Refusal}
-use Rattle.refusal.specs.declared.Refusal.TheVariants.{None}
-use Rattle.refusal.specs.Numbers.{number_of, row_of}
+use Rattle.refusal.specs.declared.Refusal.TheVariants.{None, Empty, Many, Zero, Long, Order, Cycle, Tight, Room, Record, Report, Stray, Size, Version, Dosing, Spans}
+use Rattle.refusal.specs.Numbers.{number_of}
 use Rattle.refusal.specs.Order.{accepted, given, or_else, beside}
-use Rattle.refusal.specs.contracts.Refusal.{the_type}
-use Rattle.refusal.proofs.Numbers.{refusal_at, refusal_at_lem}
 
 -- ---- only None is accepted
+number_none : (f : Refusal) → number_of f ≡ 0 → f ≡ None
+number_none None e = refl
+number_none Empty e = absurd (omega arith)
+number_none Many e = absurd (omega arith)
+number_none (Zero k) e = absurd (omega arith)
+number_none (Long k) e = absurd (omega arith)
+number_none (Order k) e = absurd (omega arith)
+number_none Cycle e = absurd (omega arith)
+number_none (Tight k) e = absurd (omega arith)
+number_none Room e = absurd (omega arith)
+number_none Record e = absurd (omega arith)
+number_none Report e = absurd (omega arith)
+number_none Stray e = absurd (omega arith)
+number_none Size e = absurd (omega arith)
+number_none Version e = absurd (omega arith)
+number_none Dosing e = absurd (omega arith)
+number_none Spans e = absurd (omega arith)
+
 pub accepted_none : (f : Refusal) → accepted f ≡ true → f ≡ None
-accepted_none f e = sym (refusal_at_lem f) ∙ ap (λ (n : ℕ). refusal_at n (row_of f)) (eqb-true (number_of f) 0 e)
-
-pub not_none : (f : Refusal) → (f ≡ None → ⊥) → accepted f ≡ false
-not_none f h = go (accepted f) refl
-  where
-    go : (b : Bool) → accepted f ≡ b → b ≡ false
-    go true e = absurd (h (accepted_none f e))
-    go false e = refl
-
-pub none_or : (f : Refusal) → (f ≡ None) ⊎ (f ≡ None → ⊥)
-none_or f = go (accepted f) refl
-  where
-    go : (b : Bool) → accepted f ≡ b → (f ≡ None) ⊎ (f ≡ None → ⊥)
-    go true e = inl (accepted_none f e)
-    go false e = inr (λ z. true≢false (sym (ap accepted z) ∙ e))
+accepted_none f e = number_none f (eqb-true (number_of f) 0 e)
 
 -- ---- a refusal that a `match` has told from None
 abbrev pub Told : Refusal → Type 0
 Told f = f ≡ None → ⊥
 
 pub refused : (f : Refusal) → Told f → accepted f ≡ false
-refused f p = not_none f p
+refused f p = go (accepted f) refl
+  where
+    go : (b : Bool) → accepted f ≡ b → b ≡ false
+    go true e = absurd (p (accepted_none f e))
+    go false e = refl
 
 -- ---- the first of two that applies
 module _ (f later : Refusal) where
-  pub stays : accepted f ≡ false → f ≡ or_else f later
-  unfolding or_else
-  stays h = rw h
-
   pub keeps : Told f → f ≡ or_else f later
-  keeps p = stays (refused f p)
+  unfolding or_else
+  keeps p = simp (refused f p)
 
   pub passes : f ≡ None → later ≡ or_else f later
   unfolding or_else

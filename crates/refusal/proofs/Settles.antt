@@ -11,7 +11,7 @@ use denote.Triple.Clauses.{AtExit}
 abbrev pub Settles : (n : ℕ) (ps : List (ParamKind n)) (r : ResultKind n) → Out n ps r → Type 0
 Settles n ps r post = (κs : Lfts n) (a : Dens κs ps) (x y : (res_t r κs).Denot) (s t : AtExit (ended_of n ps r) κs) → post κs a x s → post κs a y t → x ≡ y
 
--- and what is lent at exit, places of any kind that `lent` reads, is equal too
-abbrev pub SettlesLent : {A : Type 0} (n : ℕ) (ps : List (ParamKind n)) (r : ResultKind n) → ((κs : Lfts n) → AtExit (ended_of n ps r) κs → List A) → Out n ps r → Type 0
+-- and what is lent at exit, which `lent` reads, is equal too
+abbrev pub SettlesLent : (n : ℕ) (ps : List (ParamKind n)) (r : ResultKind n) → ((κs : Lfts n) → AtExit (ended_of n ps r) κs → List ℕ) → Out n ps r → Type 0
 SettlesLent n ps r lent post =
     (κs : Lfts n) (a : Dens κs ps) (x y : (res_t r κs).Denot) (s t : AtExit (ended_of n ps r) κs) → post κs a x s → post κs a y t → (x ≡ y) × (lent κs s ≡ lent κs t)

@@ -1,5 +1,3 @@
 pub mod Numbers
 pub mod Order
 pub mod Lent
-pub mod HandOut
-pub mod Exactly

@@ -4,8 +4,7 @@
 ghost use Rattle.std.specs.Prelude.{◌≡◌};
 ghost use Rattle.refusal.specs.Numbers.{number_of, row_of};
 
-// The refusals of documents 01 and 02, in the order of their numbers; 16 refuses nothing and is no case. Those that name a row hold it, counted from 1.
-// Those from Mode on belong to requests that are still to come, in document 02's words: no entry gives them yet.
+// The refusals of documents 01 and 02, in the order of their numbers. Those that name a row hold it, counted from 1.
 #[derive(Clone, Copy)]
 pub enum Refusal {
     None,
@@ -24,30 +23,9 @@ pub enum Refusal {
     Version,
     Dosing,
     Spans,
-    // for an unknown mode
-    Mode,
-    // for an unknown setting
-    Setting,
-    // when the clock isn't 0
-    Clock,
-    // when the row to retire isn't there
-    Absent,
-    // thorough less than quick, or r over 16
-    Thorough(u8),
-    // load over 1
-    Load,
-    // when a log byte is neither 0 nor a primary or alternate of a row in the table
-    Log,
 }
 
-// The answer of an entry that writes into lent memory: a refusal, and beside an acceptance how many places were written, else 0.
-#[derive(Clone, Copy)]
-pub struct Handed {
-    pub refusal: Refusal,
-    pub places: usize,
-}
-
-// The number that document 01 or 02 gives a refusal, and 0 for none.
+// The number that document 01 gives a refusal, and 0 for none.
 pub fn number(f: Refusal) -> u8
     ensures { result ≡ number_of f }
 {
@@ -68,13 +46,6 @@ pub fn number(f: Refusal) -> u8
         Refusal::Version => 13,
         Refusal::Dosing => 14,
         Refusal::Spans => 15,
-        Refusal::Mode => 17,
-        Refusal::Setting => 18,
-        Refusal::Clock => 19,
-        Refusal::Absent => 20,
-        Refusal::Thorough(_) => 21,
-        Refusal::Load => 22,
-        Refusal::Log => 23,
     }
 }
 
@@ -99,12 +70,5 @@ pub fn named_row(f: Refusal) -> u8
         Refusal::Version => 0,
         Refusal::Dosing => 0,
         Refusal::Spans => 0,
-        Refusal::Mode => 0,
-        Refusal::Setting => 0,
-        Refusal::Clock => 0,
-        Refusal::Absent => 0,
-        Refusal::Thorough(k) => k,
-        Refusal::Load => 0,
-        Refusal::Log => 0,
     }
 }

@@ -4,7 +4,7 @@ use mathlib.Core.Path.{◌≡◌, refl, sym, ap, ap₂, ◌∙◌, subst}
 use mathlib.Core.Logic.{⊎_elim}
 use mathlib.Core.Bool.{true, false}
 use mathlib.Core.List.{List, ◌++◌}
-use Prim.Native.Nat.{ℕ, ◌+◌, ◌-◌, ◌*◌, ◌^◌, ◌≤◌, ◌<◌}
+use Prim.Native.Nat.{ℕ, ◌+◌, ◌-◌, ◌^◌, ◌≤◌, ◌<◌}
 use native.Mathlib.Omega.{arith}
 use lib.ListN.{length, take, drop, length-append}
 use lib.Seq.{take_at}
@@ -14,27 +14,26 @@ use Rattle.refusal.specs.Order.{accepted, beside}
 use Rattle.refusal.proofs.Order.{Told, refused, beside_refused, beside_none}
 use Rattle.table.specs.declared.Table.{Table}
 use Rattle.table.specs.Rows.{used}
-use Rattle.rule.proofs.Numbers.Tests.{split}
-use Rattle.texts.specs.Laying.{Laid, Whole}
-use Rattle.texts.proofs.Laying.{laid_is}
+use Rattle.rule.proofs.Tests.{split}
 use Rattle.reserve.specs.Check.{table_refusal}
-use Rattle.reserve.proofs.Reading.Verdict.{table_accepted}
+use Rattle.reserve.proofs.Verdict.{table_accepted}
 use Rattle.slots.specs.declared.Record.{Record}
 use Rattle.slots.specs.declared.Ran.{Ran}
 use Rattle.slots.specs.declared.Lost.{Lost}
 use Rattle.slots.specs.Records.{fresh_record}
 use Rattle.slots.specs.Reports.{Outcome, run_of}
-use Rattle.slots.specs.Answers.{outcome_of, ran_with, ran_by, log_after}
+use Rattle.slots.specs.Answers.{outcome_of, told, ran_by, log_after}
 use Rattle.slots.specs.LostUnits.{lost_from, lost_fresh}
-use Rattle.slots.specs.Private.{lost_by}
-use Rattle.slots.proofs.Soundness.SoundRecord.{Sound, table_usable}
-use Rattle.slots.proofs.Lists.RunFacts.{run_short}
-use Rattle.slots.proofs.Losses.LostBound.{lost_most, open_few}
-use Rattle.slots.proofs.Cases.AnswerCases.{has_room, outcome_run}
+use Rattle.slots.specs.Turns.{lost_by}
+use Rattle.slots.proofs.SoundRecord.{Sound, table_usable}
+use Rattle.slots.proofs.RunFacts.{run_short}
+use Rattle.slots.proofs.LostBound.{lost_most, open_few}
+use Rattle.slots.proofs.AnswerCases.{has_room, outcome_run}
 use Rattle.replay.specs.declared.Progress.{Progress}
 use Rattle.replay.specs.Chunks.{replay_of, moved_on, onward_of, chunk_log, log_onward}
 use Rattle.replay.specs.Lines.{log_lines, chunk_lines}
-use Rattle.replay.specs.Private.{Replayed}
+use Rattle.replay.specs.Turns.{Laid, Replayed}
+use Rattle.replay.proofs.Laying.{laid_is}
 use Rattle.replay.proofs.Chunks.{admitted, units_by, starts_sound, replay_sound}
 
 -- ---- the figures of a list of reports are few enough to be counted
@@ -73,9 +72,9 @@ module _ (t : Table) (z : table_refusal t ≡ None) where
       is_run = outcome_run t p.next reps old kept (admitted t z p.next stands) (has_room t reps old kept room (omega (arith, (table_accepted t z).cycle)))
 
       module _ (ran : Ran) (e : ran ≡ ran_by t p.next reps old kept) (lost : Lost) (h : lost ≡ lost_from t p.next reps) where
-        tells : ran ≡ ran_with (run_of (used t) p.next reps)
+        tells : ran ≡ told (run_of (used t) p.next reps)
         unfolding ran_by
-        tells = e ∙ ap (λ (o : Outcome). ran_with o) is_run
+        tells = e ∙ ap (λ (o : Outcome). told o) is_run
 
         pub slots_room : length reps ≤ 1024 → p.slots + ran.slots < 2 ^ 64
         slots_room l = omega (arith, few_slots, ap (λ (r : Ran). r.slots) tells, run_short (used t) p.next reps)
@@ -128,15 +127,9 @@ module _ (t : Table) (p : Progress) (reps : List ℕ) where
       pub lines_few : length (take (after.slots - p.slots) log) ≤ length reps
       lines_few = omega (arith, ap length log_is, short)
 
-      -- all of them have room
-      pub lines_laid : {buffer new : List ℕ} {end : ℕ} → length reps ≤ 1024 → length buffer ≡ 65536
-          → Laid buffer 0 (log_lines p.slots (take (after.slots - p.slots) log)) new end
-          → length (log_lines p.slots (take (after.slots - p.slots) log)) ≤ 52 * length (take (after.slots - p.slots) log)
-          → Whole buffer 0 (chunk_lines t p reps) new end
+      pub lines_laid : {buffer new : List ℕ} {end : ℕ} → Laid buffer 0 (log_lines p.slots (take (after.slots - p.slots) log)) new end → Laid buffer 0 (chunk_lines t p reps) new end
       unfolding chunk_lines
-      lines_laid l b f k =
-          let lines = ap (log_lines p.slots) log_is in
-          record { laid = laid_is lines f; fits = omega (arith, ap length lines, lines_few) }
+      lines_laid f = laid_is (ap (log_lines p.slots) log_is) f
 
 -- ---- after a refusal nothing moves
 module _ (t : Table) (p : Progress) (d : Told p.refusal) (reps : List ℕ) where

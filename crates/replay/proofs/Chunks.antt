@@ -13,25 +13,25 @@ use Rattle.refusal.proofs.Order.{accepted_none, passes, beside_none, beside_not}
 use Rattle.table.specs.declared.Row.{Row}
 use Rattle.table.specs.declared.Table.{Table}
 use Rattle.table.specs.Rows.{used, cycle_of}
-use Rattle.rule.proofs.Numbers.Tests.{split, never}
+use Rattle.rule.proofs.Tests.{split, never}
 use Rattle.reserve.specs.Check.{table_refusal}
-use Rattle.jobs.specs.History.{logged, reported}
 use Rattle.slots.specs.declared.Record.{Record}
 use Rattle.slots.specs.declared.Started.{Started}
 use Rattle.slots.specs.Records.{fresh_of, fresh_record, started_for}
 use Rattle.slots.specs.Sound.{record_refusal}
 use Rattle.slots.specs.Reports.{Outcome, run_of}
-use Rattle.slots.specs.Answers.{ran_with, ran_by}
+use Rattle.slots.specs.History.{logged, reported}
+use Rattle.slots.specs.Answers.{told, ran_by}
 use Rattle.slots.specs.LostUnits.{lost_units, lost_refusal, lost_from, lost_fresh}
-use Rattle.slots.specs.Private.{lost_by}
-use Rattle.slots.proofs.Soundness.SoundRecord.{Sound, table_usable, sound_if, sound_none}
-use Rattle.slots.proofs.Soundness.StaysSound.{fresh_sound}
-use Rattle.slots.proofs.Lists.RunFacts.{run_none, next_sound}
-use Rattle.slots.proofs.Lists.JoinedRuns.{after, join_run, join_stopped}
-use Rattle.slots.proofs.Losses.LostRows.{by_none}
-use Rattle.slots.proofs.Losses.LostSum.{lost_beside}
-use Rattle.slots.proofs.Cases.AnswerCases.{has_room, outcome_run}
-use Rattle.runs.proofs.Joining.JoinedLost.{join_lost}
+use Rattle.slots.specs.Turns.{lost_by}
+use Rattle.slots.proofs.SoundRecord.{Sound, table_usable, sound_if, sound_none}
+use Rattle.slots.proofs.StaysSound.{fresh_sound}
+use Rattle.slots.proofs.RunFacts.{run_none, next_sound}
+use Rattle.slots.proofs.JoinedRuns.{after, join_run, join_stopped}
+use Rattle.slots.proofs.LostRows.{by_none}
+use Rattle.slots.proofs.LostSum.{lost_beside}
+use Rattle.slots.proofs.JoinedLost.{join_lost}
+use Rattle.slots.proofs.AnswerCases.{has_room, outcome_run}
 use Rattle.replay.specs.declared.Progress.{Progress}
 use Rattle.replay.specs.Chunks.{replay_of, replay_log, start_of, moved_on, onward_of, chunk_log, after_chunks, chunks_log, joined}
 
@@ -145,10 +145,10 @@ module _ (t : Table) (z : table_refusal t ≡ None) where
         same (replay_of t xs) (replay_of t (xs ++ ys)) (ap (λ (o : Outcome). o.refusal) (sym (stopped h))) (ap (λ (o : Outcome). length o.log) (sym (stopped h))) (lost_stopped h)
         (ap (λ (o : Outcome). o.next) (sym (stopped h)))
 
-    on_whole : accepted first.refusal ≡ true → moved_on (replay_of t xs) (ran_with second) (lost_from t first.next ys).units ≡ replay_of t (xs ++ ys)
+    on_whole : accepted first.refusal ≡ true → moved_on (replay_of t xs) (told second) (lost_from t first.next ys).units ≡ replay_of t (xs ++ ys)
     unfolding replay_of moved_on
     on_whole h =
-        same (moved_on (replay_of t xs) (ran_with second) (lost_from t first.next ys).units) (replay_of t (xs ++ ys)) (ap (λ (o : Outcome). o.refusal) (sym (goes_on h)))
+        same (moved_on (replay_of t xs) (told second) (lost_from t first.next ys).units) (replay_of t (xs ++ ys)) (ap (λ (o : Outcome). o.refusal) (sym (goes_on h)))
         (sym (length-append first.log second.log) ∙ ap (λ (o : Outcome). length o.log) (sym (goes_on h))) (lost_on h)
         (ap (λ (o : Outcome). o.next) (sym (goes_on h)))
 

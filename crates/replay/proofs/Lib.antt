@@ -1,3 +1,5 @@
+pub mod Laying
+pub mod Decimals
 pub mod SlotLines
 pub mod EndLines
 pub mod Chunks

@@ -11,7 +11,7 @@ use Rattle.table.specs.Rows.{used}
 use Rattle.reserve.specs.Check.{table_refusal}
 use Rattle.slots.specs.Records.{fresh_record}
 use Rattle.slots.specs.Reports.{Outcome}
-use Rattle.slots.proofs.Lists.RunFacts.{run_none}
+use Rattle.slots.proofs.RunFacts.{run_none}
 use Rattle.replay.specs.declared.Progress.{Progress}
 use Rattle.replay.specs.Chunks.{replay_of, replay_log, start_of, onward_of, chunk_log, joined}
 use Rattle.replay.specs.Lines.{log_lines, replay_lines, chunk_lines, chunks_lines}

@@ -6,25 +6,26 @@ use Prim.Native.Nat.{ℕ, ◌+◌, ◌-◌, ◌*◌, ◌^◌, ◌≤◌, ◌<◌
 use native.Mathlib.Omega.{arith}
 use lib.ListN.{length, take, get_or, length-append}
 use lib.Seq.{length-take-le, get_or-take}
+use Rattle.io.specs.Counts.{IsPrefixLen}
 use Rattle.refusal.specs.declared.Refusal.TheVariants.{None}
 use Rattle.table.specs.declared.Table.{Table}
-use Rattle.texts.specs.BigEndian.{word_at}
-use Rattle.texts.specs.Laying.{Whole}
-use Rattle.texts.proofs.Laying.{laid_same}
 use Rattle.reserve.specs.Check.{table_refusal}
-use Rattle.tablefile.specs.Layout.{length_field}
+use Rattle.tablefile.specs.Layout.{word_at, length_field}
 use Rattle.replay.specs.declared.Progress.{Progress}
 use Rattle.replay.specs.Chunks.{start_of, onward_of}
-use Rattle.replay.specs.Private.{Replayed}
+use Rattle.replay.specs.Turns.{Laid, Replayed}
 use Rattle.replay.proofs.Chunks.{replay_none, onward_joined}
-use Rattle.io.specs.Counts.{IsPrefixLen}
 
 -- so many bytes at the start of a list
 pub counts : (n : ℕ) (xs : List ℕ) → n ≤ length xs → IsPrefixLen n xs
 counts n xs l = (l, sym (length-take-le n xs l))
 
 -- ---- the table file
--- its length field, where its two bytes stay
+-- its length field, from two bytes, and where they stay
+pub field_is : (s : List ℕ) (high low : ℕ) → high ≡ get_or s 0 0 → low ≡ get_or s 1 0 → high * 256 + low ≡ length_field s
+unfolding word_at
+field_is s high low a b = omega (arith, a, b)
+
 pub field_kept : (new old : List ℕ) → take 2 new ≡ take 2 old → length_field new ≡ length_field old
 unfolding word_at
 field_kept new old e =
@@ -58,7 +59,7 @@ module _ {t : Table} {p : Progress} {reports out : List ℕ} {chunks : ℕ} (g :
 
   -- one more chunk
   pub replaying_step : table_refusal t ≡ None → 0 < chunks → (read : List ℕ) (n : ℕ) → n ≤ length read → length read ≡ length reports
-      → (after : Progress) → after ≡ onward_of t p (take n read) → {text new : List ℕ} {e : ℕ} → Whole out 0 text new e → Replaying t after read new (chunks - 1)
+      → (after : Progress) → after ≡ onward_of t p (take n read) → {text new : List ℕ} {e : ℕ} → Laid out 0 text new e → Replaying t after read new (chunks - 1)
   replaying_step z l read n u k after h f =
       let xs : List ℕ = g.so_far.reports in
       let ys : List ℕ = take n read in
@@ -70,5 +71,5 @@ module _ {t : Table} {p : Progress} {reports out : List ℕ} {chunks : ℕ} (g :
           gives = h ∙ ap (λ (r : Progress). onward_of t r ys) g.so_far.gives ∙ onward_joined t z xs ys;
         };
         reports_long = k ∙ g.reports_long;
-        out_long = laid_same f.laid ∙ g.out_long;
+        out_long = f.same ∙ g.out_long;
       }

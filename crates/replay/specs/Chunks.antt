@@ -8,7 +8,7 @@ use Rattle.table.specs.Rows.{used}
 use Rattle.slots.specs.declared.Ran.{Ran}
 use Rattle.slots.specs.Records.{fresh_record}
 use Rattle.slots.specs.Reports.{Outcome, run_of}
-use Rattle.slots.specs.Answers.{ran_with}
+use Rattle.slots.specs.Answers.{told}
 use Rattle.slots.specs.LostUnits.{lost_from, lost_fresh}
 use Rattle.replay.specs.declared.Progress.{Progress}
 
@@ -33,7 +33,7 @@ moved_on p ran units = record { refusal = ran.refusal; slots = p.slots + ran.slo
 
 -- one more chunk, from the record that the ones before gave; after a refusal nothing moves
 unfoldable pub onward_of : Table → Progress → List ℕ → Progress
-onward_of t p reps = cond (accepted p.refusal) (moved_on p (ran_with (run_of (used t) p.next reps)) (lost_from t p.next reps).units) p
+onward_of t p reps = cond (accepted p.refusal) (moved_on p (told (run_of (used t) p.next reps)) (lost_from t p.next reps).units) p
 
 -- the log's bytes of one more chunk
 unfoldable pub chunk_log : Table → Progress → List ℕ → List ℕ

@@ -1,3 +1,4 @@
+pub mod Texts
 pub mod Chunks
 pub mod Lines
-pub mod Private
+pub mod Turns

@@ -2,15 +2,17 @@
 -- Assumes nothing: these are definitions.
 use Rattle.std.specs.Prelude.{ℕ, zero, suc, cond, List, [], ◌∷◌, ◌++◌}
 use Rattle.refusal.specs.declared.Refusal.{Refusal}
+use Rattle.refusal.specs.Numbers.{number_of, row_of}
 use Rattle.refusal.specs.Order.{accepted}
 use Rattle.table.specs.declared.Table.{Table}
-use Rattle.texts.specs.Texts.{quoted, decimal, named, refusal_text}
-use Rattle.jobs.specs.declared.State.{State}
-use Rattle.jobs.specs.declared.State.TheVariants.{Waiting, Failed, Done}
-use Rattle.jobs.specs.declared.Job.{Job}
-use Rattle.jobs.specs.Jobs.{job_at}
-use Rattle.jobs.specs.Works.{Work, idle, primary, alternate, work_of}
+use Rattle.slots.specs.declared.State.{State}
+use Rattle.slots.specs.declared.State.TheVariants.{Waiting, Failed, Done}
+use Rattle.slots.specs.declared.Job.{Job}
+use Rattle.slots.specs.Records.{job_at}
+use Rattle.slots.specs.OneSlot.{Work, idle, primary, alternate}
+use Rattle.slots.specs.History.{work_of}
 use Rattle.replay.specs.declared.Progress.{Progress}
+use Rattle.replay.specs.Texts.{quoted, decimal, named}
 use Rattle.replay.specs.Chunks.{replay_of, replay_log, onward_of, chunk_log}
 
 -- ---- a line for each slot: 'SLOT idle', 'SLOT primary K' or 'SLOT alternate K', K the row from 1
@@ -33,9 +35,13 @@ log_lines s (ran ∷ log) = slot_line s ran ++ log_lines (suc s) log
 unfoldable pub ran_line : ℕ → ℕ → List ℕ
 ran_line slots lost = named "ran " slots ++ named " lost " lost ++ quoted "\n"
 
--- 'refused N row R slots S': the slots accepted in all beside the refusal
+-- 'refused N row R': the refusal's number and the row that it names
+unfoldable pub cause_text : Refusal → List ℕ
+cause_text f = named "refused " (number_of f) ++ named " row " (row_of f)
+
+-- 'refused N row R slots S': and the slots accepted in all
 unfoldable pub refused_line : Refusal → ℕ → List ℕ
-refused_line f slots = refusal_text f ++ named " slots " slots ++ quoted "\n"
+refused_line f slots = cause_text f ++ named " slots " slots ++ quoted "\n"
 
 -- 'clock C'
 unfoldable pub clock_line : ℕ → List ℕ

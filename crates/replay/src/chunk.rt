@@ -1,11 +1,10 @@
 // One chunk of the reports, from the record that the chunks before it gave.
 ghost use Rattle.std.specs.Prelude.{◌≡◌, ◌+◌, ◌^◌, ◌≤◌, ◌<◌, length};
 ghost use Rattle.refusal.specs.declared.Refusal.TheVariants.{None};
-ghost use Rattle.texts.specs.Laying.{Whole};
 ghost use Rattle.reserve.specs.Check.{table_refusal};
 ghost use Rattle.replay.specs.Chunks.{moved_on, onward_of, log_onward};
 ghost use Rattle.replay.specs.Lines.{chunk_lines};
-ghost use Rattle.replay.specs.Private.{Replayed};
+ghost use Rattle.replay.specs.Turns.{Laid, Replayed};
 
 use crate::{Progress, lines};
 use refusal::Refusal;
@@ -16,7 +15,7 @@ use table::Table;
 #[derive(Clone, Copy)]
 pub(crate) struct Chunk {
     pub(crate) after: Progress,
-    pub(crate) bytes: usize,
+    pub(crate) used: usize,
 }
 
 // Moved on by what the chunk's run and its lost units answered.
@@ -63,15 +62,15 @@ fn onward(p: Progress, t: Table, reports: &[u8], log: &mut [u8]) -> Progress
     }
 }
 
-// A chunk's lines, none of which is cut, and the progress after it.
+// A chunk's lines, all of which fit, and the progress after it.
 pub(crate) fn put_chunk(p: Progress, t: Table, reports: &[u8], out: &mut [u8]) -> Chunk
     requires { (table_refusal t ≡ None) × Replayed t (2 ^ 60) p × (length reports.now ≤ 1024) × (length out.old ≡ 65536) }
     ensures progress { result.after ≡ onward_of t p reports.now }
-    ensures text { Whole out.old 0 (chunk_lines t p reports.now) out.new result.bytes }
+    ensures text { Laid out.old 0 (chunk_lines t p reports.now) out.new result.used }
 {
     let mut log = [0u8; 1024];
     let after = onward(p, t, reports, &mut log);
     let count = (after.slots - p.slots) as usize;
-    let bytes = lines::put_lines(out, p.slots, &log[..count]);
-    Chunk { after, bytes }
+    let used = lines::put_lines(out, p.slots, &log[..count]);
+    Chunk { after, used }
 }

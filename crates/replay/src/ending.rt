@@ -1,36 +1,51 @@
 // The lines after those of the slots: how the list ended, and the record after the accepted slots.
 ghost use Rattle.std.specs.Prelude.{◌+◌, ◌*◌, ◌≤◌, length};
-ghost use Rattle.texts.specs.Laying.{Laid, Whole};
-ghost use Rattle.replay.specs.Lines.{ran_line, refused_line, clock_line, state_text, units_text, row_line, row_lines, end_line, end_lines};
+ghost use Rattle.replay.specs.Lines.{ran_line, cause_text, refused_line, clock_line, state_text, units_text, row_line, row_lines, end_line, end_lines};
+ghost use Rattle.replay.specs.Turns.{Laid};
 
-use crate::Progress;
-use jobs::{Job, State};
+use crate::{Progress, text};
 use refusal::Refusal;
+use slots::{Job, State};
 
 // 'ran 10 lost 1'
 fn put_ran(out: &mut [u8], at: usize, slots: u64, lost: u64) -> usize
+    requires { at + 94 ≤ length out.old }
     ensures text { Laid out.old at (ran_line slots lost) out.new result }
-    ensures short { length (ran_line slots lost) ≤ 51 }
+    ensures short { result ≤ at + 94 }
 {
-    let ran = texts::put_named(out, at, b"ran ", slots);
-    let units = texts::put_named(out, ran, b" lost ", lost);
-    texts::put_bytes(out, units, b"\n")
+    let ran = text::put_named(out, at, b"ran ", slots);
+    let units = text::put_named(out, ran, b" lost ", lost);
+    text::put_bytes(out, units, b"\n")
+}
+
+// 'refused 11 row 0'
+fn put_cause(out: &mut [u8], at: usize, f: Refusal) -> usize
+    requires { at + 62 ≤ length out.old }
+    ensures text { Laid out.old at (cause_text f) out.new result }
+    ensures short { result ≤ at + 62 }
+{
+    let number = refusal::number(f);
+    let row = refusal::named_row(f);
+    let told = text::put_named(out, at, b"refused ", number as u64);
+    text::put_named(out, told, b" row ", row as u64)
 }
 
 // 'refused 11 row 0 slots 3'
-fn put_refused(out: &mut [u8], at: usize, f: Refusal, slots: u64) -> usize
+pub(crate) fn put_refused(out: &mut [u8], at: usize, f: Refusal, slots: u64) -> usize
+    requires { at + 94 ≤ length out.old }
     ensures text { Laid out.old at (refused_line f slots) out.new result }
-    ensures short { length (refused_line f slots) ≤ 47 }
+    ensures short { result ≤ at + 94 }
 {
-    let told = texts::put_refusal(out, at, f);
-    let counted = texts::put_named(out, told, b" slots ", slots);
-    texts::put_bytes(out, counted, b"\n")
+    let told = put_cause(out, at, f);
+    let counted = text::put_named(out, told, b" slots ", slots);
+    text::put_bytes(out, counted, b"\n")
 }
 
 // How the list ended.
 fn put_outcome(out: &mut [u8], at: usize, p: Progress) -> usize
+    requires { at + 94 ≤ length out.old }
     ensures text { Laid out.old at (end_line p) out.new result }
-    ensures short { length (end_line p) ≤ 51 }
+    ensures short { result ≤ at + 94 }
 {
     let f = p.refusal;
     match f {
@@ -41,49 +56,53 @@ fn put_outcome(out: &mut [u8], at: usize, p: Progress) -> usize
 
 // 'clock 10'
 fn put_clock(out: &mut [u8], at: usize, clock: u16) -> usize
+    requires { at + 32 ≤ length out.old }
     ensures text { Laid out.old at (clock_line clock) out.new result }
-    ensures short { length (clock_line clock) ≤ 27 }
+    ensures short { result ≤ at + 32 }
 {
-    let told = texts::put_named(out, at, b"clock ", clock as u64);
-    texts::put_bytes(out, told, b"\n")
+    let told = text::put_named(out, at, b"clock ", clock as u64);
+    text::put_bytes(out, told, b"\n")
 }
 
 fn put_state(out: &mut [u8], at: usize, state: State) -> usize
-    ensures { Laid out.old at (state_text state) out.new result }
+    requires { at + 9 ≤ length out.old }
+    ensures text { Laid out.old at (state_text state) out.new result }
+    ensures short { result ≤ at + 9 }
 {
     match state {
-        State::Waiting => texts::put_bytes(out, at, b" waiting "),
-        State::Failed => texts::put_bytes(out, at, b" failed "),
-        State::Done => texts::put_bytes(out, at, b" done "),
+        State::Waiting => text::put_bytes(out, at, b" waiting "),
+        State::Failed => text::put_bytes(out, at, b" failed "),
+        State::Done => text::put_bytes(out, at, b" done "),
     }
 }
 
 // The primary units run and the alternate units left, and the line's end.
 fn put_units(out: &mut [u8], at: usize, run: u16, left: u16) -> usize
+    requires { at + 52 ≤ length out.old }
     ensures text { Laid out.old at (units_text run left) out.new result }
-    ensures short { length (units_text run left) ≤ 42 }
+    ensures short { result ≤ at + 52 }
 {
-    let ran = texts::put_number(out, at, run as u64);
-    let both = texts::put_named(out, ran, b" ", left as u64);
-    texts::put_bytes(out, both, b"\n")
+    let ran = text::put_number(out, at, run as u64);
+    let both = text::put_named(out, ran, b" ", left as u64);
+    text::put_bytes(out, both, b"\n")
 }
 
-// '2 failed 1 0': a line takes at most 71 bytes.
+// '2 failed 1 0': a line takes at most 81 bytes.
 fn put_row(out: &mut [u8], at: usize, row: u8, j: Job) -> usize
+    requires { at + 81 ≤ length out.old }
     ensures text { Laid out.old at (row_line row j) out.new result }
-    ensures short { length (row_line row j) ≤ 71 }
+    ensures short { result ≤ at + 81 }
 {
     let state = j.state;
-    let numbered = texts::put_number(out, at, row as u64);
+    let numbered = text::put_number(out, at, row as u64);
     let stated = put_state(out, numbered, state);
     put_units(out, stated, j.run, j.left)
 }
 
 // A line for each of the first n rows.
 fn put_rows(out: &mut [u8], from: usize, jobs: [Job; 16], n: u8) -> usize
-    requires { (n ≤ 16) × (from ≤ length out.old) }
-    ensures text { Laid out.old from (row_lines jobs n) out.new result }
-    ensures short { length (row_lines jobs n) ≤ 71 * n }
+    requires { (n ≤ 16) × (from + 81 * n ≤ length out.old) }
+    ensures { Laid out.old from (row_lines jobs n) out.new result }
 {
     let mut at = from;
     let mut i: u8 = 0;
@@ -94,22 +113,14 @@ fn put_rows(out: &mut [u8], from: usize, jobs: [Job; 16], n: u8) -> usize
     at
 }
 
-// All of them, for a table of n rows: none is cut.
+// All of them, for a table of n rows.
 pub(crate) fn put_end(out: &mut [u8], p: Progress, n: u8) -> usize
-    requires { (n ≤ 16) × (78 + 71 * n ≤ length out.old) }
-    ensures { Whole out.old 0 (end_lines n p) out.new result }
+    requires { (n ≤ 16) × (126 + 81 * n ≤ length out.old) }
+    ensures { Laid out.old 0 (end_lines n p) out.new result }
 {
     let q = p.next;
     let jobs = q.jobs;
     let ended = put_outcome(out, 0, p);
     let clock = put_clock(out, ended, q.clock);
     put_rows(out, clock, jobs, n)
-}
-
-// The one line of a refused table, 'refused 7 row 2 slots 0': it is not cut.
-pub(crate) fn put_refused_table(out: &mut [u8], f: Refusal) -> usize
-    requires { 47 ≤ length out.old }
-    ensures { Whole out.old 0 (refused_line f 0) out.new result }
-{
-    put_refused(out, 0, f, 0)
 }

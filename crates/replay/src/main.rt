@@ -2,13 +2,13 @@
 // ended, and the record after the accepted slots; or the one line of a refused table.
 #![tactic(auto)]
 
-ghost use Rattle.std.specs.Prelude.{◌≡◌, ◌+◌, ◌^◌, ◌≤◌, length, take};
+ghost use Rattle.std.specs.Prelude.{◌≡◌, ◌+◌, ◌^◌, ◌≤◌, ◌<◌, length, take};
+ghost use Rattle.io.specs.Counts.{IsPrefixLen};
 ghost use Rattle.refusal.specs.declared.Refusal.TheVariants.{None};
 ghost use Rattle.reserve.specs.Check.{table_refusal};
 ghost use Rattle.tablefile.specs.Layout.{length_field};
 ghost use Rattle.replay.specs.Chunks.{start_of};
-ghost use Rattle.replay.specs.Private.{Replayed};
-ghost use Rattle.io.specs.Counts.{IsPrefixLen};
+ghost use Rattle.replay.specs.Turns.{Replayed};
 
 use refusal::Refusal;
 use slots::Record;
@@ -17,6 +17,7 @@ use table::Table;
 mod chunk;
 mod ending;
 mod lines;
+mod text;
 
 // The descriptors that a process is started with.
 const STDIN_FILENO: i32 = 0;
@@ -41,6 +42,21 @@ fn read_part(buffer: &mut [u8], from: usize, end: usize) -> usize
     io::read_full(STDIN_FILENO, &mut buffer[from..end])
 }
 
+// A byte, as a number that is known to be small.
+fn wide(byte: u8) -> usize
+    ensures { (result ≡ byte) × (result < 256) }
+{
+    byte as usize
+}
+
+// What the length field of a table file says.
+fn length_field(file: &[u8]) -> usize
+    requires { 2 ≤ length file.now }
+    ensures { (result ≡ length_field file.now) × (result < 65536) }
+{
+    wide(file[0]) * 256 + wide(file[1])
+}
+
 // The table file: its length field, and as many bytes as that says, or as there are. What comes after them is left to the reports.
 fn read_file(file: &mut [u8]) -> usize
     requires { length file.old ≡ 65537 }
@@ -51,7 +67,7 @@ fn read_file(file: &mut [u8]) -> usize
     if head < 2 {
         return head;
     }
-    let end = 2 + texts::word(file, 0) as usize;
+    let end = 2 + length_field(file);
     2 + read_part(file, 2, end)
 }
 
@@ -96,8 +112,8 @@ fn replay(t: Table) -> Progress
             return p;
         }
         let done = chunk::put_chunk(p, t, &reports[..n], &mut out);
-        let bytes = done.bytes;
-        io::write_all(STDOUT_FILENO, &out[..bytes]);
+        let used = done.used;
+        io::write_all(STDOUT_FILENO, &out[..used]);
         let after = done.after;
         p = after;
         chunks -= 1;
@@ -117,7 +133,7 @@ fn print_end(t: Table, p: Progress)
 // 'refused 7 row 2 slots 0'
 fn print_refusal(f: Refusal) {
     let mut out = [0u8; 128];
-    let n = ending::put_refused_table(&mut out, f);
+    let n = ending::put_refused(&mut out, 0, f, 0);
     io::write_all(STDOUT_FILENO, &out[..n]);
 }
 

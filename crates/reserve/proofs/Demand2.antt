@@ -22,20 +22,20 @@ use Rattle.table.proofs.Windows.{opens_first, count_closes}
 use Rattle.rule.specs.Slots.{within, first_of}
 use Rattle.rule.specs.Rule.{takes, lacks}
 use Rattle.rule.specs.Sweep.{sweep}
-use Rattle.rule.proofs.Numbers.Tests.{side, false_if, never}
-use Rattle.rule.proofs.Numbers.FirstRow.{FirstAt}
-use Rattle.rule.proofs.Holding.First.{FoundFirst, first_of_found}
-use Rattle.rule.proofs.Holding.Lacks.{tight_none, none_tight, tight_first, first_tight}
-use Rattle.rule.proofs.Holding.Words.{above_same, reserves_same, rule_follows, follows_only, follows_enough}
-use Rattle.rule.proofs.Sweeping.Sweep.{sweep_is}
+use Rattle.rule.proofs.Tests.{side, false_if, never}
+use Rattle.rule.proofs.FirstRow.{FirstAt}
+use Rattle.rule.proofs.First.{FoundFirst, first_of_found}
+use Rattle.rule.proofs.Lacks.{tight_none, none_tight, tight_first, first_tight}
+use Rattle.rule.proofs.Words.{above_same, reserves_same, rule_follows, follows_only, follows_enough}
+use Rattle.rule.proofs.Sweep.{sweep_is}
 use Rattle.reserve.specs.Tables.{ends, whole}
 use Rattle.reserve.specs.Check.{tight_of, table_refusal}
 use Rattle.reserve.specs.Lists.{reservation_list, jobs_of, first_slots}
 use Rattle.reserve.specs.Demand.{InCycle, Assigned, listed, ShortJob, TightAt, job_place, FirstReserved}
-use Rattle.reserve.proofs.Reading.Tables.{AllGood, windows_of, claims_of_lem, ends_within, ends_last}
-use Rattle.reserve.proofs.Reading.Verdict.{after_rows}
-use Rattle.reserve.proofs.Firsts.JobWindows.{follows_assigned, assigned_follows, short_lacks, lacks_short}
-use Rattle.reserve.proofs.Firsts.FirstSlots.{byte_takes, first_at, first_listed}
+use Rattle.reserve.proofs.Tables.{AllGood, windows_of, claims_of_lem, ends_within, ends_last}
+use Rattle.reserve.proofs.Verdict.{after_rows}
+use Rattle.reserve.proofs.JobWindows.{follows_assigned, assigned_follows, short_lacks, lacks_short}
+use Rattle.reserve.proofs.FirstSlots.{byte_takes, first_at, first_listed}
 
 -- ---- the refusal by the row that the rule names
 module _ (t : Table) (e : rows_refusal t ≡ None) where

@@ -1,30 +1,33 @@
--- When each refusal of a table given as rows is given: the column 'Given exactly when' of document 01's 'Numbers of refusal', for 1 to 7 and for an acceptance, in 01's order.
+-- When each refusal of a table given as rows is given: the column 'Given exactly when' of document 01's 'Numbers of refusal', for 1 to 7, for 8 where a list is handed out,
+-- and for an acceptance, in 01's order. What specs/Exactly says of a refusal brings it about (the laws `-if`), and of every table it says something of some refusal (the laws
+-- `some-`): so each is given exactly when.
 -- Assumes nothing.
-use mathlib.Core.Path.{◌≡◌, refl, sym, ap, ◌∙◌}
-use mathlib.Core.Logic.{inl, inr, ◌↔◌, ⊎_elim}
-use mathlib.Core.Bool.{true, ◌||◌}
+use mathlib.Core.Path.{◌≡◌, refl, sym, ap, ◌∙◌, subst}
+use mathlib.Core.Logic.{◌⊎◌, inl, inr, ◌↔◌, ⊎_elim}
+use mathlib.Core.Bool.{true, false, ◌||◌}
 use mathlib.Core.List.{List}
 use Prim.Native.Nat.{ℕ, zero, suc, ◌≤◌, ◌<◌}
 use native.Mathlib.Numerals.{add-one}
+use native.Mathlib.Nat.{eq-zero-or-pos}
 use native.Mathlib.Omega.{arith}
-use borrow.Author.Tests.{eqb-true, eq-eqb, ltb-true, lt-ltb}
+use borrow.Author.Count.{below_none}
+use borrow.Author.Tests.{eqb-true, eq-eqb, ne_eqb, ltb-true, lt-ltb, le-ltb}
 use lib.Dec.{ltb, eqb}
 use lib.ListN.{length, drop, drop_of_length-le}
 use lib.Seq.{drop-cons}
 use Rattle.refusal.specs.declared.Refusal.{Refusal}
-use Rattle.refusal.specs.declared.Refusal.TheVariants.{None, Empty, Many, Zero, Long, Order, Cycle, Tight}
-use Rattle.refusal.specs.Numbers.{number_of}
-use Rattle.refusal.specs.Order.{given, or_else}
-use Rattle.refusal.specs.Exactly.{Where, Then, FirstOf}
-use Rattle.refusal.proofs.Exactly.{exact, same_exactly, less_exactly, where_gives, chain, first_gives, Only, where_only, then_only, first_only}
+use Rattle.refusal.specs.declared.Refusal.TheVariants.{None, Empty, Many, Zero, Long, Order, Cycle, Tight, Room, Dosing, Record, Report, Size, Spans, Stray, Version}
+use Rattle.refusal.specs.Order.{accepted, given, or_else}
+use Rattle.refusal.proofs.Order.{passes}
 use Rattle.table.specs.declared.Row.{Row}
 use Rattle.table.specs.declared.Table.{Table}
 use Rattle.table.specs.Rows.{used, blank, row_at, cycle_of}
 use Rattle.table.specs.Check.{is_zero, is_long, fault_of, faults_of, rows_refusal}
-use Rattle.rule.proofs.Numbers.Tests.{or_cases, or_left, or_right}
+use Rattle.rule.proofs.Tests.{split, side, never, false_if, or_cases, or_left, or_right}
 use Rattle.reserve.specs.Check.{tight_of, table_refusal}
-use Rattle.reserve.specs.Exactly.{ZeroRow, LongRow, EarlyRow, RowGives, RowsGives, RuleGives, TableGives}
-use Rattle.reserve.proofs.Reading.Verdict.{after_rows}
+use Rattle.reserve.specs.HandOut.{handed_refusal}
+use Rattle.reserve.specs.Exactly.{ZeroRow, LongRow, EarlyRow, ClearRow, Reached, AllClear, Counted, RowGives, RowsGives, TableGives, HandedGives}
+use Rattle.reserve.proofs.Verdict.{after_rows}
 use Rattle.reserve.proofs.Demand2.{tight_exactly, accepted_exactly}
 
 -- ---- the tests of a row say what is refused in it
@@ -41,12 +44,24 @@ module _ (r : Row) where
       (λ e. inr (inr (eqb-true r.alternate 0 e)))
       (or_cases _ _ h)
 
+  no_zero : (ZeroRow r → ⊥) → is_zero r ≡ false
+  no_zero z = false_if (is_zero r) (λ h. z (test_zero h))
+
+  zero_or : ZeroRow r ⊎ (ZeroRow r → ⊥)
+  zero_or = ⊎_elim (λ h. inl (test_zero h)) (λ h. inr (λ z. never (zero_test z) h)) (split (is_zero r))
+
   long_test : LongRow r → is_long r ≡ true
   long_test (inl l) = or_left _ _ (lt-ltb r.period r.primary l)
   long_test (inr l) = or_right (ltb r.period r.primary) _ (lt-ltb r.period r.alternate l)
 
   test_long : is_long r ≡ true → LongRow r
   test_long h = ⊎_elim (λ l. inl (ltb-true r.period r.primary l)) (λ l. inr (ltb-true r.period r.alternate l)) (or_cases _ _ h)
+
+  no_long : (LongRow r → ⊥) → is_long r ≡ false
+  no_long l = false_if (is_long r) (λ h. l (test_long h))
+
+  long_or : LongRow r ⊎ (LongRow r → ⊥)
+  long_or = ⊎_elim (λ h. inl (test_long h)) (λ h. inr (λ l. never (long_test l) h)) (split (is_long r))
 
 -- the period of the row before row i, and 0 before the first, where no row stands
 abbrev before : List Row → ℕ → ℕ
@@ -55,8 +70,8 @@ before rs (suc i) = (row_at rs i).period
 
 early_less : (rs : List Row) (i : ℕ) → EarlyRow rs i → (row_at rs i).period < before rs i
 unfolding EarlyRow
-early_less rs (suc i) e = e
 early_less rs zero e = elim e [ ]
+early_less rs (suc i) e = e
 
 less_early : (rs : List Row) (i : ℕ) → (row_at rs i).period < before rs i → EarlyRow rs i
 unfolding EarlyRow
@@ -64,19 +79,34 @@ less_early rs zero l = absurd (omega arith)
 less_early rs (suc i) l = l
 
 module _ (rs : List Row) where
+  early_or : (i : ℕ) → EarlyRow rs i ⊎ (EarlyRow rs i → ⊥)
+  early_or i = ⊎_elim (λ l. inl (less_early rs i l)) (λ l. inr (λ e. omega (arith, early_less rs i e))) (side (row_at rs i).period (before rs i))
+
   -- ---- the fault of row i: 'in each row 3, 4, 5'
   abbrev fault : ℕ → Refusal
   fault i = fault_of (suc i) (before rs i) (row_at rs i)
 
-  fault_gives : (i : ℕ) (f : Refusal) → (fault i ≡ f) ↔ RowGives rs i f
-  unfolding fault_of
-  fault_gives i =
-      let r : Row = row_at rs i in
-      let early : ℕ = before rs i in
-      let Late : Refusal → Type 0 = Where (EarlyRow rs i) (Order (suc i)) in
-      chain (Where (ZeroRow r) (Zero (suc i))) (Then (Where (LongRow r) (Long (suc i))) Late) (where_gives (is_zero r) (test_zero r, zero_test r) (Zero (suc i)))
-      (λ z. chain (Where (LongRow r) (Long (suc i))) Late (where_gives (is_long r) (test_long r, long_test r) (Long (suc i)))
-      (λ y. where_gives (ltb r.period early) (λ h. less_early rs i (ltb-true r.period early h), λ e. lt-ltb r.period early (early_less rs i e)) (Order (suc i))))
+  module _ (i : ℕ) where
+    fault_zero : ZeroRow (row_at rs i) → fault i ≡ Zero (suc i)
+    unfolding fault_of or_else
+    fault_zero z = rw (zero_test (row_at rs i) z)
+
+    module _ (z : ZeroRow (row_at rs i) → ⊥) where
+      fault_long : LongRow (row_at rs i) → fault i ≡ Long (suc i)
+      unfolding fault_of or_else
+      fault_long l = rw (no_zero (row_at rs i) z, long_test (row_at rs i) l)
+
+      module _ (l : LongRow (row_at rs i) → ⊥) where
+        fault_order : EarlyRow rs i → fault i ≡ Order (suc i)
+        unfolding fault_of or_else
+        fault_order e = rw (no_zero (row_at rs i) z, no_long (row_at rs i) l, lt-ltb (row_at rs i).period (before rs i) (early_less rs i e))
+
+        fault_none : (EarlyRow rs i → ⊥) → fault i ≡ None
+        unfolding fault_of or_else
+        fault_none e =
+            ⊎_elim (λ (o : (row_at rs i).period < before rs i). absurd (e (less_early rs i o)))
+            (λ (o : before rs i ≤ (row_at rs i).period). rw (no_zero (row_at rs i) z, no_long (row_at rs i) l, le-ltb (row_at rs i).period (before rs i) o))
+            (side (row_at rs i).period (before rs i))
 
   -- ---- 'then rows from the first': the faults of the rows from row i on
   abbrev onward : ℕ → Refusal
@@ -88,68 +118,239 @@ module _ (rs : List Row) where
       ap (faults_of (suc i) (before rs i)) (drop-cons rs i blank l)
       ∙ ap (λ (k : ℕ). or_else (fault i) (faults_of k (row_at rs i).period (drop (suc i) rs))) (add-one (suc i))
 
-  onward_end : onward (length rs) ≡ None
-  unfolding faults_of
-  onward_end =
-      let end : length rs ≤ length rs = omega arith in
-      ap (faults_of (suc (length rs)) (before rs (length rs))) (drop_of_length-le rs end)
+  -- rows in which nothing is refused are passed over
+  onward_from : (i : ℕ) → i ≤ length rs → ((k : ℕ) → k < i → ClearRow rs k) → faults_of 1 0 rs ≡ onward i
+  onward_from zero l s = refl
+  onward_from (suc i) l s =
+      let here : ClearRow rs i = s i (omega arith) in
+      onward_from i (omega arith) (λ k u. s k (omega arith))
+      ∙ onward_step i l
+      ∙ sym (passes (fault i) (onward (suc i)) (fault_none i here.not_zero here.not_long here.not_early))
 
-  faults_gives : (f : Refusal) → (faults_of 1 0 rs ≡ f) ↔ FirstOf (RowGives rs) (length rs) f
-  faults_gives = first_gives (RowGives rs) (length rs) fault onward fault_gives onward_step onward_end
+  faults_none : AllClear rs → faults_of 1 0 rs ≡ None
+  unfolding faults_of
+  faults_none s =
+      let end : length rs ≤ length rs = omega arith in
+      onward_from (length rs) end s ∙ ap (faults_of (suc (length rs)) (before rs (length rs))) (drop_of_length-le rs end)
+
+  faults_row : (i : ℕ) (f : Refusal) → Reached rs i → fault i ≡ f → accepted f ≡ false → faults_of 1 0 rs ≡ f
+  unfolding or_else
+  faults_row i f r e a = onward_from i (omega (arith, r.row)) r.before ∙ onward_step i r.row ∙ rw (e, a)
+
+-- ---- where each thing that `Gives` says of a refusal brings it about, and it says something of some refusal, each is given exactly when it says so
+pub exact : {r : Refusal} (Gives : Refusal → Type 0) → ((f : Refusal) → Gives f → r ≡ f) → (f : Refusal) × Gives f → (f : Refusal) → (r ≡ f) ↔ Gives f
+exact Gives brings some f = (λ e. subst Gives (sym (brings some.0 some.1) ∙ e) some.1, brings f)
+
+module _ (t : Table) where
+  abbrev rs : List Row
+  rs = used t
+
+  -- ---- 1 to 6: what is said of each refusal brings it about
+  given_empty : t.n ≡ 0 → rows_refusal t ≡ Empty
+  unfolding rows_refusal or_else
+  given_empty e = simp (eq-eqb _ _ e)
+
+  given_many : 16 < t.n → rows_refusal t ≡ Many
+  unfolding rows_refusal or_else
+  given_many l = simp (ne_eqb t.n 0 (λ z. omega arith), lt-ltb _ _ l)
+
+  -- neither 1 nor 2
+  counted : Counted t → rows_refusal t ≡ or_else (faults_of 1 0 rs) (given (ltb 4096 (cycle_of rs)) Cycle)
+  unfolding rows_refusal or_else
+  counted c = simp (ne_eqb t.n 0 (λ z. omega arith), le-ltb 16 t.n c.1)
+
+  given_row : {k : ℕ} {What : ℕ → Type 0} (f : ℕ → Refusal) → accepted (f k) ≡ false → ((i : ℕ) → What i → fault rs i ≡ f (suc i)) → RowGives t k What → rows_refusal t ≡ f k
+  unfolding or_else
+  given_row {k} f a h g =
+      rw (counted g.counted, faults_row rs g.i (f k) g.reached (h g.i g.what ∙ ap f (sym g.named)) a, a)
+
+  module _ (c : Counted t) (s : AllClear rs) where
+    given_cycle : 4096 < cycle_of rs → rows_refusal t ≡ Cycle
+    unfolding or_else
+    given_cycle l = rw (counted c, faults_none rs s, lt-ltb 4096 (cycle_of rs) l)
+
+    given_none : cycle_of rs ≤ 4096 → rows_refusal t ≡ None
+    unfolding or_else
+    given_none l = rw (counted c, faults_none rs s, le-ltb 4096 (cycle_of rs) l)
+
+  -- nothing gives the variants that have no clause here
+  rows_if : (f : Refusal) → RowsGives t f → rows_refusal t ≡ f
+  unfolding RowsGives
+  rows_if None g = given_none g.0 g.1 g.2
+  rows_if Empty g = given_empty g
+  rows_if Many g = given_many g
+  rows_if (Zero k) g = given_row Zero refl (fault_zero rs) g
+  rows_if (Long k) g = given_row Long refl (λ i w. fault_long rs i w.0 w.1) g
+  rows_if (Order k) g = given_row Order refl (λ i w. fault_order rs i w.0 w.1 w.2) g
+  rows_if Cycle g = given_cycle g.0 g.1 g.2
+  rows_if (Tight _) g = elim g [ ]
+  rows_if Room g = elim g [ ]
+  rows_if Record g = elim g [ ]
+  rows_if Report g = elim g [ ]
+  rows_if Stray g = elim g [ ]
+  rows_if Size g = elim g [ ]
+  rows_if Version g = elim g [ ]
+  rows_if Dosing g = elim g [ ]
+  rows_if Spans g = elim g [ ]
+
+  -- ---- and of every table one of these things can be said
+  abbrev SomeRows : Type 0
+  SomeRows = (f : Refusal) × RowsGives t f
+
+  module _ (c : Counted t) where
+    row_gives : (i : ℕ) → Reached rs i → ClearRow rs i ⊎ SomeRows
+    unfolding RowsGives
+    row_gives i r =
+        ⊎_elim (λ z. inr (Zero (suc i), record { counted = c; i = i; named = refl; reached = r; what = z }))
+        (λ z.
+        ⊎_elim (λ l. inr (Long (suc i), record { counted = c; i = i; named = refl; reached = r; what = (z, l) }))
+        (λ l.
+        ⊎_elim (λ e. inr (Order (suc i), record { counted = c; i = i; named = refl; reached = r; what = (z, l, e) }))
+        (λ e. inl (record { not_zero = z; not_long = l; not_early = e })) (early_or rs i)) (long_or (row_at rs i)))
+        (zero_or (row_at rs i))
+
+    rows_give : (m : ℕ) → m ≤ length rs → ((k : ℕ) → k < m → ClearRow rs k) ⊎ SomeRows
+    rows_give zero l = inl (below_none (ClearRow rs))
+    rows_give (suc m) l = ⊎_elim (λ s. ⊎_elim (λ here. inl (more s here)) inr (row_gives m (record { row = l; before = s }))) inr (rows_give m (omega arith))
+      where
+        more : ((k : ℕ) → k < m → ClearRow rs k) → ClearRow rs m → (k : ℕ) → k < suc m → ClearRow rs k
+        more s here k u = ⊎_elim (λ (v : k < m). s k v) (λ (v : m ≤ k). let q : k ≡ m = omega arith in rw q here) (side k m)
+
+    cycle_gives : AllClear rs → SomeRows
+    unfolding RowsGives
+    cycle_gives s = ⊎_elim (λ (l : 4096 < cycle_of rs). (Cycle, (c, s, l))) (λ (l : cycle_of rs ≤ 4096). (None, (c, s, l))) (side 4096 (cycle_of rs))
+
+  some_rows : SomeRows
+  unfolding RowsGives
+  some_rows =
+      ⊎_elim (λ (e : t.n ≡ 0). (Empty, e))
+      (λ (p : 0 < t.n).
+      ⊎_elim (λ (l : 16 < t.n). (Many, l)) (λ (l : t.n ≤ 16). ⊎_elim (cycle_gives (p, l)) (λ g. g) (rows_give (p, l) (length rs) (omega arith))) (side 16 t.n))
+      (eq-zero-or-pos t.n)
+
+  -- ---- the same of 1 to 7
+  -- one of 1 to 6
+  given_rows : (f : Refusal) → accepted f ≡ false → RowsGives t f → table_refusal t ≡ f
+  unfolding table_refusal or_else
+  given_rows f a g = rw (rows_if f g, a)
+
+  given_if : (f : Refusal) → TableGives t f → table_refusal t ≡ f
+  unfolding TableGives
+  given_if None g = (accepted_exactly t (rows_if None g.0)).1 g.1
+  given_if Empty g = given_rows Empty refl g
+  given_if Many g = given_rows Many refl g
+  given_if (Zero k) g = given_rows (Zero k) refl g
+  given_if (Long k) g = given_rows (Long k) refl g
+  given_if (Order k) g = given_rows (Order k) refl g
+  given_if Cycle g = given_rows Cycle refl g
+  given_if (Tight k) g = (tight_exactly t (rows_if None g.0) g.1.0).1 g.1.2 ∙ ap Tight (sym g.1.1)
+  given_if Room g = elim g [ ]
+  given_if Record g = elim g [ ]
+  given_if Report g = elim g [ ]
+  given_if Stray g = elim g [ ]
+  given_if Size g = elim g [ ]
+  given_if Version g = elim g [ ]
+  given_if Dosing g = elim g [ ]
+  given_if Spans g = elim g [ ]
+
+  abbrev SomeGives : Type 0
+  SomeGives = (f : Refusal) × TableGives t f
+
+  -- where 1 to 6 accept
+  rule_gives : RowsGives t None → SomeGives
+  unfolding TableGives
+  rule_gives g = go (tight_of rs) (after_rows t e)
+    where
+      e : rows_refusal t ≡ None
+      e = rows_if None g
+
+      go : (k : ℕ) → given (ltb 0 k) (Tight k) ≡ table_refusal t → SomeGives
+      go zero d = (None, (g, (accepted_exactly t e).0 (sym d)))
+      go (suc i) d = (Tight (suc i), (g, (i, refl, (tight_exactly t e i).0 (sym (rw (lt-ltb 0 (suc i) (omega arith)) at d)))))
+
+  some_gives : (f : Refusal) → RowsGives t f → SomeGives
+  unfolding TableGives RowsGives
+  some_gives None g = rule_gives g
+  some_gives Empty g = (Empty, g)
+  some_gives Many g = (Many, g)
+  some_gives (Zero k) g = (Zero k, g)
+  some_gives (Long k) g = (Long k, g)
+  some_gives (Order k) g = (Order k, g)
+  some_gives Cycle g = (Cycle, g)
+  some_gives (Tight _) g = elim g [ ]
+  some_gives Room g = elim g [ ]
+  some_gives Record g = elim g [ ]
+  some_gives Report g = elim g [ ]
+  some_gives Stray g = elim g [ ]
+  some_gives Size g = elim g [ ]
+  some_gives Version g = elim g [ ]
+  some_gives Dosing g = elim g [ ]
+  some_gives Spans g = elim g [ ]
 
 -- 'Given exactly when': 1 to 6
 pub rows_gives : (t : Table) (f : Refusal) → (rows_refusal t ≡ f) ↔ RowsGives t f
-unfolding rows_refusal RowsGives
-rows_gives t =
-    let Faults : Refusal → Type 0 = FirstOf (RowGives (used t)) (length (used t)) in
-    let Over : Refusal → Type 0 = Where (4096 < cycle_of (used t)) Cycle in
-    chain (Where (t.n ≡ 0) Empty) (Then (Where (16 < t.n) Many) (Then Faults Over)) (where_gives (eqb t.n 0) (same_exactly t.n 0) Empty)
-    (λ z. chain (Where (16 < t.n) Many) (Then Faults Over) (where_gives (ltb 16 t.n) (less_exactly 16 t.n) Many)
-    (λ y. chain Faults Over (faults_gives (used t)) (λ x. where_gives (ltb 4096 (cycle_of (used t))) (less_exactly 4096 (cycle_of (used t))) Cycle)))
-
--- ---- then 7, where 1 to 6 accept
-module _ (t : Table) (e : rows_refusal t ≡ None) where
-  abbrev rule : Refusal
-  rule = given (ltb 0 (tight_of (used t))) (Tight (tight_of (used t)))
-
-  rule_if : (f : Refusal) → RuleGives (used t) f → rule ≡ f
-  unfolding RuleGives
-  rule_if f (inl g) = after_rows t e ∙ (tight_exactly t e g.0).1 g.2 ∙ sym g.1
-  rule_if f (inr g) = after_rows t e ∙ (accepted_exactly t e).1 g.1 ∙ sym g.0
-
-  some_rule : (f : Refusal) × RuleGives (used t) f
-  unfolding RuleGives
-  some_rule = go (tight_of (used t)) (after_rows t e)
-    where
-      go : (k : ℕ) → given (ltb 0 k) (Tight k) ≡ table_refusal t → (f : Refusal) × RuleGives (used t) f
-      go zero d = (None, inr (refl, (accepted_exactly t e).0 (sym d)))
-      go (suc i) d = (Tight (suc i), inl (i, refl, (tight_exactly t e i).0 (sym (rw (lt-ltb 0 (suc i) (omega arith)) at d))))
+rows_gives t = exact (RowsGives t) (rows_if t) (some_rows t)
 
 -- 1 to 7
 pub table_gives : (t : Table) (f : Refusal) → (table_refusal t ≡ f) ↔ TableGives t f
-unfolding table_refusal TableGives
-table_gives t = chain (RowsGives t) (RuleGives (used t)) (rows_gives t) (λ e. exact (RuleGives (used t)) (rule_if t e) (some_rule t e))
+table_gives t = exact (TableGives t) (given_if t) (some_gives t (some_rows t).0 (some_rows t).1)
 
 -- and one is given at most
 pub gives_one : (t : Table) (f g : Refusal) → TableGives t f → TableGives t g → f ≡ g
 gives_one t f g p q = sym ((table_gives t f).1 p) ∙ (table_gives t g).1 q
 
--- ---- no other number is given
-pub rows_only : (t : Table) → Only (λ f. number_of f ≤ 6) (RowsGives t)
-unfolding RowsGives
-rows_only t =
-    let Few : Refusal → Type 0 = λ f. number_of f ≤ 6 in
-    let none : Few None = omega arith in
-    then_only Few (where_only Few none (t.n ≡ 0) Empty (omega arith))
-    (then_only Few (where_only Few none (16 < t.n) Many (omega arith))
-    (then_only Few (first_only Few none (RowGives (used t)) (length (used t))
-    (λ i.
-    then_only Few (where_only Few none (ZeroRow (row_at (used t) i)) (Zero (suc i)) (omega arith))
-    (then_only Few (where_only Few none (LongRow (row_at (used t) i)) (Long (suc i)) (omega arith))
-    (where_only Few none (EarlyRow (used t) i) (Order (suc i)) (omega arith)))))
-    (where_only Few none (4096 < cycle_of (used t)) Cycle (omega arith))))
+-- ---- the same where a list is handed out
+module _ (t : Table) (new old : List ℕ) where
+  abbrev room : Refusal
+  room = given (ltb (length old) (length new)) Room
 
-pub table_only : (t : Table) → Only (λ f. number_of f ≤ 7) (TableGives t)
-unfolding TableGives RuleGives
-table_only t =
-    then_only (λ f. number_of f ≤ 7) (λ f g. omega (arith, rows_only t f g)) (λ f. ⊎_elim (λ g. omega (arith, ap number_of g.1)) (λ g. omega (arith, ap number_of g.0)))
+  -- none of 1 to 7
+  handed_last : TableGives t None → handed_refusal t new old ≡ room
+  unfolding handed_refusal
+  handed_last g = sym (passes (table_refusal t) room (given_if t None g))
+
+  -- one of them
+  handed_table : (f : Refusal) → accepted f ≡ false → TableGives t f → handed_refusal t new old ≡ f
+  unfolding handed_refusal or_else
+  handed_table f a g = rw (given_if t f g, a)
+
+  handed_if : (f : Refusal) → HandedGives t new old f → handed_refusal t new old ≡ f
+  unfolding HandedGives
+  handed_if None g = handed_last g.0 ∙ rw (le-ltb (length old) (length new) g.1)
+  handed_if Room g = handed_last g.0 ∙ rw (lt-ltb (length old) (length new) g.1)
+  handed_if Empty g = handed_table Empty refl g
+  handed_if Many g = handed_table Many refl g
+  handed_if (Zero k) g = handed_table (Zero k) refl g
+  handed_if (Long k) g = handed_table (Long k) refl g
+  handed_if (Order k) g = handed_table (Order k) refl g
+  handed_if Cycle g = handed_table Cycle refl g
+  handed_if (Tight k) g = handed_table (Tight k) refl g
+  handed_if Record g = elim g [ ]
+  handed_if Report g = elim g [ ]
+  handed_if Stray g = elim g [ ]
+  handed_if Size g = elim g [ ]
+  handed_if Version g = elim g [ ]
+  handed_if Dosing g = elim g [ ]
+  handed_if Spans g = elim g [ ]
+
+  some_handed : (f : Refusal) → TableGives t f → (f : Refusal) × HandedGives t new old f
+  unfolding HandedGives TableGives
+  some_handed None g = ⊎_elim (λ (l : length old < length new). (Room, (g, l))) (λ (l : length new ≤ length old). (None, (g, l))) (side (length old) (length new))
+  some_handed Empty g = (Empty, g)
+  some_handed Many g = (Many, g)
+  some_handed (Zero k) g = (Zero k, g)
+  some_handed (Long k) g = (Long k, g)
+  some_handed (Order k) g = (Order k, g)
+  some_handed Cycle g = (Cycle, g)
+  some_handed (Tight k) g = (Tight k, g)
+  some_handed Room g = elim g [ ]
+  some_handed Record g = elim g [ ]
+  some_handed Report g = elim g [ ]
+  some_handed Stray g = elim g [ ]
+  some_handed Size g = elim g [ ]
+  some_handed Version g = elim g [ ]
+  some_handed Dosing g = elim g [ ]
+  some_handed Spans g = elim g [ ]
+
+  pub handed_gives : (f : Refusal) → (handed_refusal t new old ≡ f) ↔ HandedGives t new old f
+  handed_gives = exact (HandedGives t new old) handed_if (some_handed (table_refusal t) ((table_gives t (table_refusal t)).0 refl))

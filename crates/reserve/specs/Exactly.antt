@@ -1,10 +1,9 @@
 -- When each refusal of a table given as rows is given, in the words of document 01's table 'Numbers of refusal' and of its order: 'The first that applies is given, and a
 -- later one only if no earlier one applies.' The chain of tests that the code meets is not in it. Rows are counted from 0 here: row i is document 01's row i + 1.
 -- Assumes nothing: these are definitions.
-use Rattle.std.specs.Prelude.{◌≡◌, ◌⊎◌, List, ℕ, zero, suc, ◌<◌, length}
+use Rattle.std.specs.Prelude.{◌≡◌, ◌⊎◌, List, ℕ, zero, suc, ◌≤◌, ◌<◌, length}
 use Rattle.refusal.specs.declared.Refusal.{Refusal}
-use Rattle.refusal.specs.declared.Refusal.TheVariants.{None, Empty, Many, Zero, Long, Order, Cycle, Tight}
-use Rattle.refusal.specs.Exactly.{Where, Then, FirstOf}
+use Rattle.refusal.specs.declared.Refusal.TheVariants.{None, Empty, Many, Zero, Long, Order, Cycle, Tight, Room, Record, Report, Stray, Size, Version, Dosing, Spans}
 use Rattle.table.specs.declared.Row.{Row}
 use Rattle.table.specs.declared.Table.{Table}
 use Rattle.table.specs.Rows.{used, row_at, cycle_of}
@@ -24,27 +23,98 @@ unfoldable pub EarlyRow : List Row → ℕ → Type 0
 EarlyRow rs zero = ⊥
 EarlyRow rs (suc i) = (row_at rs (suc i)).period < (row_at rs i).period
 
--- 'in each row 3, 4, 5', and 'The answer names a row'
-abbrev pub RowGives : List Row → ℕ → Refusal → Type 0
-RowGives rs i =
-    Then (Where (ZeroRow (row_at rs i)) (Zero (suc i)))
-    (Then (Where (LongRow (row_at rs i)) (Long (suc i)))
-    (Where (EarlyRow rs i) (Order (suc i))))
+-- nothing is refused in row i
+pub record ClearRow (rs : List Row) (i : ℕ) : Type 0 where
+  pub not_zero : ZeroRow (row_at rs i) → ⊥
+  pub not_long : LongRow (row_at rs i) → ⊥
+  pub not_early : EarlyRow rs i → ⊥
+
+-- 'then rows from the first': row i is one of the rows, and nothing is refused in a row before it
+pub record Reached (rs : List Row) (i : ℕ) : Type 0 where
+  pub row : i < length rs
+  pub before : (k : ℕ) → k < i → ClearRow rs k
+
+-- nothing is refused in any row
+abbrev pub AllClear : List Row → Type 0
+AllClear rs = (k : ℕ) → k < length rs → ClearRow rs k
 
 -- ---- what is refused in a table
--- 1 to 6, of the entries that refuse a table by these alone: 'n is 0', 'n is over 16', 'then rows from the first, in each row 3, 4, 5, then 6', 'the cycle is over 4,096'
+-- neither 1 nor 2
+abbrev pub Counted : Table → Type 0
+Counted t = (1 ≤ t.n) × (t.n ≤ 16)
+
+-- 'The answer names a row': row k, counted from 1, is reached, and `What` says what is refused in it
+pub record RowGives (t : Table) (k : ℕ) (What : ℕ → Type 0) : Type 0 where
+  pub counted : Counted t
+  pub i : ℕ
+  pub named : k ≡ suc i
+  pub reached : Reached (used t) i
+  pub what : What i
+
+-- the refusal is given exactly when, of the entries that refuse a table by 1 to 6 alone
 unfoldable pub RowsGives : Table → Refusal → Type 0
-RowsGives t =
-    Then (Where (t.n ≡ 0) Empty)
-    (Then (Where (16 < t.n) Many)
-    (Then (FirstOf (RowGives (used t)) (length (used t)))
-    (Where (4096 < cycle_of (used t)) Cycle)))
+RowsGives t None = Counted t × AllClear (used t) × (cycle_of (used t) ≤ 4096)
+-- 1: 'n is 0'
+RowsGives t Empty = t.n ≡ 0
+-- 2: 'n is over 16'
+RowsGives t Many = 16 < t.n
+-- 'in each row 3, 4, 5'
+RowsGives t (Zero k) = RowGives t k (λ i. ZeroRow (row_at (used t) i))
+RowsGives t (Long k) = RowGives t k (λ i. (ZeroRow (row_at (used t) i) → ⊥) × LongRow (row_at (used t) i))
+RowsGives t (Order k) = RowGives t k (λ i. (ZeroRow (row_at (used t) i) → ⊥) × (LongRow (row_at (used t) i) → ⊥) × EarlyRow (used t) i)
+-- 'then 6': 'the cycle is over 4,096'
+RowsGives t Cycle = Counted t × AllClear (used t) × (4096 < cycle_of (used t))
+-- the others are not about rows and their cycle
+RowsGives t (Tight k) = ⊥
+RowsGives t Room = ⊥
+RowsGives t Record = ⊥
+RowsGives t Report = ⊥
+RowsGives t Stray = ⊥
+RowsGives t Size = ⊥
+RowsGives t Version = ⊥
+RowsGives t Dosing = ⊥
+RowsGives t Spans = ⊥
 
--- 7: 'the reservation rule leaves a job short', and the first row with such a job is named; or no job is short
-unfoldable pub RuleGives : List Row → Refusal → Type 0
-RuleGives rs f =
-    ((i : ℕ) × (f ≡ Tight (suc i)) × TightAt rs i) ⊎ ((f ≡ None) × ((i j : ℕ) → i < length rs → ShortJob rs i j → ⊥))
-
--- and of those that refuse it by 7 too: 'then 7'
+-- and of those that refuse it by 7 too
 unfoldable pub TableGives : Table → Refusal → Type 0
-TableGives t = Then (RowsGives t) (RuleGives (used t))
+TableGives t None = RowsGives t None × ((i j : ℕ) → i < length (used t) → ShortJob (used t) i j → ⊥)
+-- 1 to 6
+TableGives t Empty = RowsGives t Empty
+TableGives t Many = RowsGives t Many
+TableGives t (Zero k) = RowsGives t (Zero k)
+TableGives t (Long k) = RowsGives t (Long k)
+TableGives t (Order k) = RowsGives t (Order k)
+TableGives t Cycle = RowsGives t Cycle
+-- 'then 7': 'the reservation rule leaves a job short', and the first row with such a job is named
+TableGives t (Tight k) = RowsGives t None × ((i : ℕ) × (k ≡ suc i) × TightAt (used t) i)
+-- the others are not about a table
+TableGives t Room = ⊥
+TableGives t Record = ⊥
+TableGives t Report = ⊥
+TableGives t Stray = ⊥
+TableGives t Size = ⊥
+TableGives t Version = ⊥
+TableGives t Dosing = ⊥
+TableGives t Spans = ⊥
+
+-- ---- what is refused where a list is handed out: `new` is the list, `old` what the lent output holds
+unfoldable pub HandedGives : Table → List ℕ → List ℕ → Refusal → Type 0
+HandedGives t new old None = TableGives t None × (length new ≤ length old)
+-- 8, after 1 to 7: 'a lent output is shorter than its use'
+HandedGives t new old Room = TableGives t None × (length old < length new)
+-- 1 to 7
+HandedGives t new old Empty = TableGives t Empty
+HandedGives t new old Many = TableGives t Many
+HandedGives t new old (Zero k) = TableGives t (Zero k)
+HandedGives t new old (Long k) = TableGives t (Long k)
+HandedGives t new old (Order k) = TableGives t (Order k)
+HandedGives t new old Cycle = TableGives t Cycle
+HandedGives t new old (Tight k) = TableGives t (Tight k)
+-- the others are not about a list that is handed out
+HandedGives t new old Record = ⊥
+HandedGives t new old Report = ⊥
+HandedGives t new old Stray = ⊥
+HandedGives t new old Size = ⊥
+HandedGives t new old Version = ⊥
+HandedGives t new old Dosing = ⊥
+HandedGives t new old Spans = ⊥

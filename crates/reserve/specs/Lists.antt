@@ -1,9 +1,9 @@
 -- The reservation list and the first slots of a table.
 -- Assumes nothing: these are definitions.
-use Rattle.std.specs.Prelude.{ℕ, zero, suc, List, [], ◌∷◌, ◌++◌, length}
+use Rattle.std.specs.Prelude.{ℕ, zero, suc, ◌/◌, List, [], ◌∷◌, ◌++◌, length}
 use Rattle.table.specs.declared.Row.{Row}
 use Rattle.table.specs.Rows.{row_at, cycle_of}
-use Rattle.table.specs.Windows.{opens, jobs_in}
+use Rattle.table.specs.Windows.{opens}
 use Rattle.rule.specs.Rule.{first}
 use Rattle.rule.specs.Sweep.{holders}
 use Rattle.reserve.specs.Tables.{ends, whole}
@@ -14,7 +14,7 @@ reservation_list rs = holders (ends rs) (whole rs) (length rs) 0 (cycle_of rs)
 
 -- how many jobs row i has in the cycle
 unfoldable pub jobs_of : List Row → ℕ → ℕ
-jobs_of rs i = jobs_in (row_at rs i) (cycle_of rs)
+jobs_of rs i = cycle_of rs / (row_at rs i).period
 
 -- 'The first reserved slot of a job is its notification time': of m jobs of row i, from job j on
 unfoldable pub job_firsts : List Row → ℕ → ℕ → ℕ → List ℕ

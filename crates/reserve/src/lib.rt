@@ -2,17 +2,24 @@
 #![tactic(auto)]
 
 ghost use Rattle.std.specs.Prelude.{◌≡◌};
-ghost use Rattle.refusal.specs.HandOut.{handed, handed_over};
 ghost use Rattle.table.specs.Rows.{used};
-ghost use Rattle.reserve.specs.Check.{table_refusal, table_check};
+ghost use Rattle.reserve.specs.Check.{table_check};
 ghost use Rattle.reserve.specs.Standing.{from_clock};
 ghost use Rattle.reserve.specs.Lists.{reservation_list, first_slots};
+ghost use Rattle.reserve.specs.HandOut.{handed, handed_over};
 
-use refusal::{Handed, Refusal};
+use refusal::Refusal;
 use table::{Checked, Table};
 
 mod scan;
 mod sweep;
+
+// The answer of an entry that writes into lent memory: a refusal, and beside an acceptance how many places were written, else 0.
+#[derive(Clone, Copy)]
+pub struct Handed {
+    pub refusal: Refusal,
+    pub used: usize,
+}
 
 // What the rule says from a clock on: a refusal (1 to 6), the cycle, the first row with a job that is short, and the holder of the clock's slot; 0 for none.
 #[derive(Clone, Copy)]
@@ -80,8 +87,8 @@ pub fn from_clock(t: Table, clock: u16, left: [u16; 16]) -> Standing
 
 // Writes the reservation list: a byte for each slot of the cycle, 0 for free or the row. Later bytes stay, and a refusal writes nothing.
 pub fn reservations(t: Table, out: &mut [u8]) -> Handed
-    ensures answer { result ≡ handed (table_refusal t) (reservation_list (used t)) out.old }
-    ensures bytes { out.new ≡ handed_over (table_refusal t) (reservation_list (used t)) out.old }
+    ensures answer { result ≡ handed t (reservation_list (used t)) out.old }
+    ensures bytes { out.new ≡ handed_over t (reservation_list (used t)) out.old }
 {
     let checked = check(t);
     let f = checked.refusal;
@@ -92,26 +99,26 @@ pub fn reservations(t: Table, out: &mut [u8]) -> Handed
             if out.len() < slots {
                 return Handed {
                     refusal: Refusal::Room,
-                    places: 0,
+                    used: 0,
                 };
             }
             sweep::fill(t, cycle, out);
             Handed {
                 refusal: Refusal::None,
-                places: slots,
+                used: slots,
             }
         }
         _ => Handed {
             refusal: f,
-            places: 0,
+            used: 0,
         },
     }
 }
 
 // Writes the first slot of each job, rows in order. Later places stay, and a refusal writes nothing.
 pub fn first_slots(t: Table, out: &mut [u16]) -> Handed
-    ensures answer { result ≡ handed (table_refusal t) (first_slots (used t)) out.old }
-    ensures places { out.new ≡ handed_over (table_refusal t) (first_slots (used t)) out.old }
+    ensures answer { result ≡ handed t (first_slots (used t)) out.old }
+    ensures places { out.new ≡ handed_over t (first_slots (used t)) out.old }
 {
     let checked = check(t);
     let f = checked.refusal;
@@ -122,7 +129,7 @@ pub fn first_slots(t: Table, out: &mut [u16]) -> Handed
             if out.len() < jobs {
                 return Handed {
                     refusal: Refusal::Room,
-                    places: 0,
+                    used: 0,
                 };
             }
             let mut list = [0u8; 4096];
@@ -130,12 +137,12 @@ pub fn first_slots(t: Table, out: &mut [u16]) -> Handed
             scan::put_firsts(t, cycle, &list, out);
             Handed {
                 refusal: Refusal::None,
-                places: jobs,
+                used: jobs,
             }
         }
         _ => Handed {
             refusal: f,
-            places: 0,
+            used: 0,
         },
     }
 }

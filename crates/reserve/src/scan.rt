@@ -7,7 +7,7 @@ ghost use Rattle.rule.specs.Slots.{first_of};
 ghost use Rattle.rule.specs.Rule.{first};
 ghost use Rattle.reserve.specs.Tables.{ends, whole};
 ghost use Rattle.reserve.specs.Lists.{jobs_of, job_firsts, first_slots};
-ghost use Rattle.reserve.specs.Private.{Ready, Listed};
+ghost use Rattle.reserve.specs.Turns.{Ready, Listed};
 
 use table::Table;
 
@@ -18,7 +18,7 @@ fn row_jobs(t: Table, cycle: u16, i: u8) -> u16
 {
     let k = i as usize;
     let row = t.rows[k];
-    row.jobs_in(cycle)
+    cycle / row.period
 }
 
 // How many jobs all rows have in a cycle.
@@ -58,9 +58,9 @@ fn job_first(t: Table, cycle: u16, i: u8, j: u16, list: &[u8]) -> u16
 {
     let k = i as usize;
     let row = t.rows[k];
-    let from = row.opens(j + 1) as u16;
-    let to = row.closes(j + 1) as u16;
-    first_held(list, i + 1, from, to)
+    let period = row.period;
+    let w = j * period;
+    first_held(list, i + 1, w, w + period)
 }
 
 // Writes the first slots of the jobs of row i, counted from 0, from the place `at` on.

@@ -7,13 +7,13 @@ ghost use Rattle.reserve.specs.Tables.{ends, claims};
 ghost use Rattle.reserve.specs.Check.{tight_of};
 ghost use Rattle.reserve.specs.Standing.{short_from, holder_from};
 ghost use Rattle.reserve.specs.Lists.{reservation_list};
-ghost use Rattle.reserve.specs.Private.{Ready, Unspent, claim_at, lower_of, Coming, Turned};
+ghost use Rattle.reserve.specs.Turns.{Ready, Unspent, claim_at, lower_of, Coming, Turned};
 
 use table::{Row, Table};
 
 // What one slot's turn leaves: the rests of the rows' claims, the slot's holder, and the lowest row that is short there; 0 for none.
 #[derive(Clone, Copy)]
-struct SlotSwept {
+struct Passed {
     rests: [u16; 16],
     holder: u8,
     short: u8,
@@ -26,11 +26,21 @@ pub(crate) struct Swept {
     pub(crate) short: u8,
 }
 
+// The end of the window that slot t is in.
+fn window_end(r: Row, t: u16) -> u32
+    requires { 0 < r.period }
+    ensures { result ≡ window_end r t }
+{
+    let period = r.period as u32;
+    (t as u32 / period + 1) * period
+}
+
 // What the job of slot t's window claims, where `units` are left of the row's current job: those in the clock's own window, and else all of a.
 fn claim(r: Row, clock: u16, units: u16, t: u16) -> u16
+    requires { 0 < r.period }
     ensures { result ≡ claim_at r clock units t }
 {
-    if r.window_end(t as u32) == r.window_end(clock as u32) {
+    if window_end(r, t) == window_end(r, clock) {
         units
     } else {
         r.alternate
@@ -39,9 +49,10 @@ fn claim(r: Row, clock: u16, units: u16, t: u16) -> u16
 
 // What is left of a row's claim as the sweep comes to slot t: the whole claim at a window's last slot.
 fn arrived(r: Row, clock: u16, units: u16, t: u16, rest: u16) -> u16
+    requires { 0 < r.period }
     ensures { result ≡ cond (eqb (window_end r t) (suc t)) (claim_at r clock units t) rest }
 {
-    if r.window_end(t as u32) == t as u64 + 1 {
+    if window_end(r, t) == t as u32 + 1 {
         claim(r, clock, units, t)
     } else {
         rest
@@ -72,11 +83,13 @@ fn picked(found: u8, test: bool, row: u8) -> u8
 
 // A row with y units left once slot t is passed is short there, if its first usable slot is there: the clock's, or its window's first.
 fn short_here(r: Row, clock: u16, t: u16, y: u16) -> bool
+    requires { 0 < r.period }
     ensures { result ≡ ((eqb t clock || starts r t) && ltb 0 y) }
 {
+    let m = t % r.period;
     if t == clock {
         0 < y
-    } else if r.starts(t as u64) {
+    } else if m == 0 {
         0 < y
     } else {
         false
@@ -99,7 +112,7 @@ fn lower(a: u8, b: u8) -> u8
 }
 
 // Slot s's turn: each row's rest is brought down to s, and the first row with units left takes the slot.
-fn pass(t: Table, cycle: u16, clock: u16, left: [u16; 16], s: u16, rests: [u16; 16]) -> SlotSwept
+fn pass(t: Table, cycle: u16, clock: u16, left: [u16; 16], s: u16, rests: [u16; 16]) -> Passed
     requires { Ready t cycle × (clock ≤ s) × (s < cycle) × Coming (ends (used t)) (claims (used t) clock left) (length (used t)) s rests }
     ensures { Turned (ends (used t)) (claims (used t) clock left) clock (length (used t)) s result.rests result.holder result.short }
 {
@@ -118,7 +131,7 @@ fn pass(t: Table, cycle: u16, clock: u16, left: [u16; 16], s: u16, rests: [u16; 
         after[at] = y;
         i += 1;
     }
-    SlotSwept {
+    Passed {
         rests: after,
         holder,
         short,
@@ -137,8 +150,8 @@ pub(crate) fn down(t: Table, cycle: u16, clock: u16, left: [u16; 16]) -> Swept
     while clock < s {
         s -= 1;
         let now = pass(t, cycle, clock, left, s, rests);
-        let brought = now.rests;
-        rests = brought;
+        let next = now.rests;
+        rests = next;
         holder = now.holder;
         short = lower(now.short, short);
     }
@@ -179,8 +192,8 @@ pub(crate) fn fill(t: Table, cycle: u16, out: &mut [u8])
     while 0 < s {
         s -= 1;
         let now = pass(t, cycle, 0, left, s, rests);
-        let brought = now.rests;
-        rests = brought;
+        let next = now.rests;
+        rests = next;
         out[s as usize] = now.holder;
     }
 }

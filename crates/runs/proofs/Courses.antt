@@ -12,20 +12,19 @@ use Rattle.table.specs.declared.Row.{Row}
 use Rattle.table.specs.Rows.{row_at}
 use Rattle.table.specs.Windows.{opens, closes}
 use Rattle.table.proofs.Windows.{opens_first}
-use Rattle.rule.proofs.Numbers.Tests.{side}
-use Rattle.jobs.specs.declared.Job.{Job}
-use Rattle.jobs.specs.Jobs.{new_job, job_at}
-use Rattle.jobs.specs.Works.{Work}
-use Rattle.jobs.specs.History.{alternates}
-use Rattle.jobs.proofs.JobStory.{Window, DoneIn, primaries_none, alternates_none, ran_few, fell_few, at_end, nothing_after_done, no_primary_after}
+use Rattle.rule.proofs.Tests.{side}
+use Rattle.slots.specs.declared.Job.{Job}
 use Rattle.slots.specs.declared.Record.{Record}
-use Rattle.slots.specs.Records.{fresh_jobs, fresh_of}
+use Rattle.slots.specs.Records.{new_job, job_at, fresh_jobs, fresh_of}
+use Rattle.slots.specs.OneSlot.{Work}
+use Rattle.slots.specs.History.{alternates}
 use Rattle.slots.specs.LostUnits.{first_seen}
 use Rattle.slots.specs.Course.{Course}
-use Rattle.slots.proofs.Places.Entries.{fresh_at}
-use Rattle.slots.proofs.Soundness.SoundRecord.{Usable}
-use Rattle.slots.proofs.Soundness.StaysSound.{fresh_sound}
-use Rattle.slots.proofs.Lists.Passages.{job_in, window, last_left}
+use Rattle.slots.proofs.Entries.{fresh_at}
+use Rattle.slots.proofs.SoundRecord.{Usable}
+use Rattle.slots.proofs.StaysSound.{fresh_sound}
+use Rattle.slots.proofs.JobStory.{Window, DoneIn, primaries_none, alternates_none, ran_few, fell_few, at_end, nothing_after_done, no_primary_after}
+use Rattle.slots.proofs.Passages.{job_in, window, last_left}
 use Rattle.runs.specs.Demand3.{Finished, Served, AllServed}
 
 fresh_clock : (rs : List Row) → (fresh_of rs).clock ≡ 0

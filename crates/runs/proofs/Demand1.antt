@@ -10,21 +10,18 @@ use Prim.Native.Nat.{ℕ, ◌≤◌, ◌<◌}
 use lib.ListN.{length, get_or, take, drop}
 use Rattle.refusal.specs.declared.Refusal.{Refusal}
 use Rattle.refusal.specs.declared.Refusal.TheVariants.{None, Report, Stray}
-use Rattle.refusal.specs.declared.Handed.{Handed}
-use Rattle.refusal.specs.HandOut.{handed}
-use Rattle.refusal.specs.Exactly.{HandedGives}
-use Rattle.refusal.proofs.Exactly.{handed_gives}
 use Rattle.table.specs.declared.Table.{Table}
 use Rattle.table.specs.declared.Checked.{Checked}
 use Rattle.table.specs.Rows.{used, cycle_of}
 use Rattle.table.specs.Check.{rows_check}
 use Rattle.reserve.specs.declared.Standing.{Standing}
+use Rattle.reserve.specs.declared.Handed.{Handed}
 use Rattle.reserve.specs.Check.{table_check}
 use Rattle.reserve.specs.Lists.{reservation_list, first_slots}
 use Rattle.reserve.specs.Standing.{from_clock}
-use Rattle.reserve.specs.Exactly.{RowsGives, TableGives}
-use Rattle.reserve.proofs.Exactly.{rows_gives, table_gives}
-use Rattle.jobs.specs.Works.{byte_of}
+use Rattle.reserve.specs.HandOut.{handed}
+use Rattle.reserve.specs.Exactly.{RowsGives, TableGives, HandedGives}
+use Rattle.reserve.proofs.Exactly.{rows_gives, table_gives, handed_gives}
 use Rattle.slots.specs.declared.Record.{Record}
 use Rattle.slots.specs.declared.Started.{Started}
 use Rattle.slots.specs.declared.Asked.{Asked}
@@ -32,16 +29,20 @@ use Rattle.slots.specs.declared.Awaiting.{Awaiting}
 use Rattle.slots.specs.declared.Stepped.{Stepped}
 use Rattle.slots.specs.declared.Ran.{Ran}
 use Rattle.slots.specs.declared.Lost.{Lost}
-use Rattle.slots.specs.OneSlot.{holder_at, what}
+use Rattle.slots.specs.OneSlot.{holder_at, what, byte_of}
 use Rattle.slots.specs.WaitingSet.{awaiting_of}
 use Rattle.slots.specs.Reports.{rec_after}
 use Rattle.slots.specs.Answers.{asked_of, ran_by, log_after, reservations_of, buffer_after}
-use Rattle.runs.specs.Exactly.{RecordGives, SlotGives, RunGivesAt, LostGives, LostFreshGives}
-use Rattle.runs.proofs.Refusing.ExactlyWhen as at_once
-use Rattle.runs.proofs.Refusing.ListsWhen as in-lists
-use Rattle.runs.proofs.Refusing.HandedBack.{ByReport}
-use Rattle.runs.proofs.Refusing.HandedBack as back
-use Rattle.runs.proofs.Answering.Calls.{RowsCall, rows_table, ClockCall, clock_table, CheckCall, check_table, ListCall, list_table, old_list, FirstsCall, firsts_table, old_firsts, FreshCall, fresh_table, AskCall, asked_at, asked_table, WaitCall, waits_at, waits_table, StepCall, step_from, step_table, step_report, RunCall, run_from, run_table, run_reports, old_log, new_log, old_buffer, new_buffer, LostCall, loss_from, loss_table, loss_reports, LostFreshCall, loss_fresh_table, loss_fresh_reports}
+use Rattle.slots.specs.Exactly.{RecordGives, SlotGives, RunGivesAt, LostGives, LostFreshGives}
+use Rattle.slots.proofs.ExactlyWhen as at_once
+use Rattle.slots.proofs.ListsWhen as in-lists
+use Rattle.slots.proofs.HandedBack.{ByReport}
+use Rattle.slots.proofs.HandedBack as back
+use Rattle.runs.proofs.Calls.{RowsCall, rows_table, ClockCall, clock_table}
+use Rattle.runs.proofs.Calls.{CheckCall, check_table, ListCall, list_table, old_list, FirstsCall, firsts_table, old_firsts, FreshCall, fresh_table}
+use Rattle.runs.proofs.Calls.{AskCall, asked_at, asked_table, WaitCall, waits_at, waits_table, StepCall, step_from, step_table, step_report}
+use Rattle.runs.proofs.Calls.{RunCall, run_from, run_table, run_reports, old_log, new_log, old_buffer, new_buffer}
+use Rattle.runs.proofs.Calls.{LostCall, loss_from, loss_table, loss_reports, LostFreshCall, loss_fresh_table, loss_fresh_reports}
 
 -- a refusal that is the same as another is given exactly when that one is
 as_is : {f g : Refusal} (Gives : Refusal → Type 0) → f ≡ g → ((h : Refusal) → (g ≡ h) ↔ Gives h) → (h : Refusal) → (f ≡ h) ↔ Gives h
@@ -63,19 +64,17 @@ unfolding table_check
 check_gives c = as_is (TableGives (check_table c)) (ap (λ (r : Checked). r.refusal) c.meets) (table_gives (check_table c))
 
 -- `reservations` and `first_slots`: 1 to 7, then 8
-pub reservations_gives : (c : ListCall) (f : Refusal) → (c.answer.refusal ≡ f) ↔ HandedGives (TableGives (list_table c)) (reservation_list (used (list_table c))) (old_list c) f
+pub reservations_gives : (c : ListCall) (f : Refusal) → (c.answer.refusal ≡ f) ↔ HandedGives (list_table c) (reservation_list (used (list_table c))) (old_list c) f
 unfolding handed
 reservations_gives c =
     let new : List ℕ = reservation_list (used (list_table c)) in
-    let Earlier : Refusal → Type 0 = TableGives (list_table c) in
-    as_is (HandedGives Earlier new (old_list c)) (ap (λ (r : Handed). r.refusal) c.meets.0) (handed_gives Earlier new (old_list c) (table_gives (list_table c)))
+    as_is (HandedGives (list_table c) new (old_list c)) (ap (λ (r : Handed). r.refusal) c.meets.0) (handed_gives (list_table c) new (old_list c))
 
-pub first_slots_gives : (c : FirstsCall) (f : Refusal) → (c.answer.refusal ≡ f) ↔ HandedGives (TableGives (firsts_table c)) (first_slots (used (firsts_table c))) (old_firsts c) f
+pub first_slots_gives : (c : FirstsCall) (f : Refusal) → (c.answer.refusal ≡ f) ↔ HandedGives (firsts_table c) (first_slots (used (firsts_table c))) (old_firsts c) f
 unfolding handed
 first_slots_gives c =
     let new : List ℕ = first_slots (used (firsts_table c)) in
-    let Earlier : Refusal → Type 0 = TableGives (firsts_table c) in
-    as_is (HandedGives Earlier new (old_firsts c)) (ap (λ (r : Handed). r.refusal) c.meets.0) (handed_gives Earlier new (old_firsts c) (table_gives (firsts_table c)))
+    as_is (HandedGives (firsts_table c) new (old_firsts c)) (ap (λ (r : Handed). r.refusal) c.meets.0) (handed_gives (firsts_table c) new (old_firsts c))
 
 -- `fresh`: 1 to 7
 pub fresh_gives : (c : FreshCall) (f : Refusal) → (c.answer.refusal ≡ f) ↔ TableGives (fresh_table c) f

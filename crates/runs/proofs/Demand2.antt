@@ -17,32 +17,31 @@ use Rattle.table.specs.declared.Table.{Table}
 use Rattle.table.specs.Rows.{used, cycle_of}
 use Rattle.rule.specs.Rule.{takes}
 use Rattle.rule.specs.Words.{Follows}
-use Rattle.rule.proofs.Numbers.Tests.{and_left, both_ways, never}
-use Rattle.rule.proofs.Numbers.FirstRow.{first_row_lem, found_none}
-use Rattle.rule.proofs.Holding.Holders.{holder_is}
-use Rattle.rule.proofs.Holding.Lacks.{tight_none}
-use Rattle.rule.proofs.Moving.Enough.{enough_tight}
-use Rattle.rule.proofs.Holding.Words.{above_same, reserves_same, rule_follows, follows_only}
+use Rattle.rule.proofs.Tests.{and_left, both_ways, never}
+use Rattle.rule.proofs.FirstRow.{first_row_lem, found_none}
+use Rattle.rule.proofs.Holders.{holder_is}
+use Rattle.rule.proofs.Lacks.{tight_none}
+use Rattle.rule.proofs.Enough.{enough_tight}
+use Rattle.rule.proofs.Words.{above_same, reserves_same, rule_follows, follows_only}
 use Rattle.reserve.specs.Tables.{ends}
-use Rattle.reserve.proofs.Reading.Tables.{AllGood, windows_of, ends_within}
-use Rattle.jobs.specs.declared.State.{State}
-use Rattle.jobs.specs.declared.State.TheVariants.{Waiting, Failed, Done}
-use Rattle.jobs.specs.Jobs.{job_at, is_waiting}
-use Rattle.jobs.specs.Works.{byte_of}
+use Rattle.reserve.proofs.Tables.{AllGood, windows_of, ends_within}
+use Rattle.slots.specs.declared.State.{State}
+use Rattle.slots.specs.declared.State.TheVariants.{Waiting, Failed, Done}
 use Rattle.slots.specs.declared.Record.{Record}
 use Rattle.slots.specs.declared.Asked.{Asked}
+use Rattle.slots.specs.Records.{job_at}
 use Rattle.slots.specs.Sound.{claims_of, sound, record_refusal}
-use Rattle.slots.specs.OneSlot.{holder_at, lowest_waiting, reserved, unreserved, what}
+use Rattle.slots.specs.OneSlot.{holder_at, is_waiting, lowest_waiting, reserved, unreserved, what, byte_of}
 use Rattle.slots.specs.Reports.{rec_after}
 use Rattle.slots.specs.Answers.{asked_of}
-use Rattle.slots.proofs.Soundness.SoundRecord.{Usable, Sound, table_usable, sound_at, none_table, none_sound}
-use Rattle.slots.proofs.Soundness.SlotActs.{the_holder}
-use Rattle.slots.proofs.Lists.RunFacts.{after_sound}
+use Rattle.slots.proofs.SoundRecord.{Usable, Sound, table_usable, sound_at, none_table, none_sound}
+use Rattle.slots.proofs.SlotActs.{the_holder}
+use Rattle.slots.proofs.RunFacts.{after_sound}
 use Rattle.runs.specs.Demand2.{ReservedFrom, named, Unreserved, LowestWaits, Points}
-use Rattle.runs.proofs.Answering.Calls.{AskCall, asked_at, asked_table, RunCall, run_from, run_table, run_reports, new_log}
-use Rattle.runs.proofs.Answering.RunAnswers.{Enters, slot_enters}
+use Rattle.runs.proofs.Calls.{AskCall, asked_at, asked_table, RunCall, run_from, run_table, run_reports, new_log}
+use Rattle.runs.proofs.RunAnswers.{Enters, slot_enters}
 use Rattle.runs.proofs.Demand1.{log_new}
-use Rattle.runs.proofs.Recorded.RecordJobs.{record_claims, follows_reserved, reserved_follows}
+use Rattle.runs.proofs.RecordJobs.{record_claims, follows_reserved, reserved_follows}
 
 -- ---- what a record reserves
 module _ (rs : List Row) (q : Record) where

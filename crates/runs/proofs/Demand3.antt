@@ -14,27 +14,26 @@ use Rattle.refusal.proofs.Order.{beside_none}
 use Rattle.table.specs.declared.Row.{Row}
 use Rattle.table.specs.declared.Table.{Table}
 use Rattle.table.specs.Rows.{used, cycle_of}
-use Rattle.rule.proofs.Numbers.Tests.{side}
-use Rattle.rule.proofs.Numbers.Counting.{within_same}
+use Rattle.rule.proofs.Tests.{side}
+use Rattle.rule.proofs.Counting.{within_same}
 use Rattle.reserve.specs.Check.{table_refusal}
-use Rattle.jobs.specs.Works.{Work, byte_of, work_of, is_primary, is_alternate}
-use Rattle.jobs.specs.History.{logged, reported, primaries, alternates}
 use Rattle.slots.specs.declared.Record.{Record}
 use Rattle.slots.specs.declared.Started.{Started}
 use Rattle.slots.specs.declared.Stepped.{Stepped}
 use Rattle.slots.specs.Records.{fresh_of, fresh_record, started_for}
 use Rattle.slots.specs.Sound.{sound, record_refusal}
-use Rattle.slots.specs.OneSlot.{what, step_of}
+use Rattle.slots.specs.OneSlot.{Work, what, byte_of, step_of}
 use Rattle.slots.specs.Reports.{Outcome, run_of, rec_after}
+use Rattle.slots.specs.History.{work_of, logged, reported, is_primary, is_alternate, primaries, alternates}
 use Rattle.slots.specs.Answers.{slot_under, stepped_by}
-use Rattle.slots.proofs.Soundness.SoundRecord.{Usable, table_usable, sound_if, none_table, sound_none}
-use Rattle.slots.proofs.Soundness.StaysSound.{fresh_sound, what_allowed}
-use Rattle.slots.proofs.Lists.RunFacts.{run_none, run_whole, what_byte}
-use Rattle.slots.proofs.Lists.RunCourse.{run_course}
+use Rattle.slots.proofs.SoundRecord.{Usable, table_usable, sound_if, none_table, sound_none}
+use Rattle.slots.proofs.StaysSound.{fresh_sound, what_allowed}
+use Rattle.slots.proofs.RunFacts.{run_none, run_whole, what_byte}
+use Rattle.slots.proofs.RunCourse.{run_course}
 use Rattle.runs.specs.Demand3.{Finished, Served, AllServed}
 use Rattle.runs.proofs.Courses.{course_served}
-use Rattle.runs.proofs.Answering.Calls.{FreshCall, fresh_table, StepCall, step_from, step_table, step_report, RunCall, run_from, run_table, run_reports, run_outcome, old_log, new_log, old_buffer}
-use Rattle.runs.proofs.Answering.RunAnswers.{Enters, Left, Leaves, accepted_enters, run_answers, run_same, no_room}
+use Rattle.runs.proofs.Calls.{FreshCall, fresh_table, StepCall, step_from, step_table, step_report, RunCall, run_from, run_table, run_reports, run_outcome, old_log, new_log, old_buffer}
+use Rattle.runs.proofs.RunAnswers.{Enters, Left, Leaves, accepted_enters, run_answers, run_same, no_room}
 
 -- ---- two histories that agree on their first N slots
 module _ (N : ℕ) (works works' : ℕ → Work) (reports reports' : ℕ → ℕ)

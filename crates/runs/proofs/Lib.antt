@@ -1,9 +1,9 @@
-pub mod Refusing
-pub mod Recorded
-pub mod Answering
-pub mod Joining
 pub mod Courses
 pub mod Demand1
+pub mod Calls
+pub mod RunAnswers
 pub mod Demand3
 pub mod OnceIsEnough
+pub mod Joined
+pub mod RecordJobs
 pub mod Demand2

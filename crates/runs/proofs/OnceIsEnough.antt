@@ -14,23 +14,21 @@ use Rattle.refusal.proofs.Order.{passes}
 use Rattle.table.specs.declared.Row.{Row}
 use Rattle.table.specs.declared.Table.{Table}
 use Rattle.table.specs.Rows.{used}
-use Rattle.jobs.specs.Works.{byte_of}
-use Rattle.jobs.specs.Report.{report_refusal}
-use Rattle.jobs.specs.History.{reported}
 use Rattle.slots.specs.declared.Record.{Record}
 use Rattle.slots.specs.declared.Stepped.{Stepped}
 use Rattle.slots.specs.Sound.{record_refusal}
-use Rattle.slots.specs.OneSlot.{what, step_of}
-use Rattle.slots.specs.Reports.{Outcome, run_of, rec_after}
+use Rattle.slots.specs.OneSlot.{what, byte_of, step_of}
+use Rattle.slots.specs.Reports.{report_refusal, Outcome, run_of, rec_after}
+use Rattle.slots.specs.History.{reported}
+use Rattle.slots.specs.Exactly.{AcceptedTo}
 use Rattle.slots.specs.Answers.{slot_under, stepped_by}
-use Rattle.slots.proofs.Soundness.SoundRecord.{Sound, table_usable, sound_at, sound_if, none_table, none_sound, sound_none}
-use Rattle.slots.proofs.Lists.RunFacts.{after_none, after_more, after_sound, run_short, run_next, log_bytes}
-use Rattle.runs.specs.Exactly.{AcceptedTo}
-use Rattle.runs.proofs.Refusing.ExactlyWhen.{report_gives}
-use Rattle.runs.proofs.Refusing.ListsWhen.{list_stops}
-use Rattle.runs.proofs.Refusing.HandedBack.{slot_refused}
-use Rattle.runs.proofs.Answering.Calls.{StepCall, step_from, step_table, step_report, RunCall, run_from, run_table, run_reports, run_outcome, new_log}
-use Rattle.runs.proofs.Answering.RunAnswers.{Enters, Leaves, run_answers}
+use Rattle.slots.proofs.SoundRecord.{Sound, table_usable, sound_at, sound_if, none_table, none_sound, sound_none}
+use Rattle.slots.proofs.RunFacts.{after_none, after_more, after_sound, run_short, run_next, log_bytes}
+use Rattle.slots.proofs.ExactlyWhen.{report_gives}
+use Rattle.slots.proofs.ListsWhen.{list_stops}
+use Rattle.slots.proofs.HandedBack.{slot_refused}
+use Rattle.runs.proofs.Calls.{StepCall, step_from, step_table, step_report, RunCall, run_from, run_table, run_reports, run_outcome, new_log}
+use Rattle.runs.proofs.RunAnswers.{Enters, Leaves, run_answers}
 use Rattle.runs.proofs.Demand1.{log_new}
 
 -- ---- one slot under no refusal

@@ -8,9 +8,9 @@ use Rattle.table.specs.Windows.{opens, closes}
 use Rattle.rule.specs.Words.{above, Reserves}
 use Rattle.reserve.specs.Tables.{ends}
 use Rattle.reserve.specs.Demand.{InCycle}
-use Rattle.jobs.specs.declared.State.TheVariants.{Waiting}
-use Rattle.jobs.specs.Jobs.{job_at}
+use Rattle.slots.specs.declared.State.TheVariants.{Waiting}
 use Rattle.slots.specs.declared.Record.{Record}
+use Rattle.slots.specs.Records.{job_at}
 use Rattle.slots.specs.OneSlot.{holder_at}
 
 -- 'Reservations are worked out from the record': 'with the clock as the first usable slot', rows from row 1 down, each job reserves the latest of its slots that no higher row holds

@@ -5,8 +5,8 @@ use Rattle.std.specs.Prelude.{◌≡◌, ◌≢◌, ◌⊎◌, List, ℕ, ◌≤
 use Rattle.table.specs.declared.Row.{Row}
 use Rattle.table.specs.Rows.{row_at}
 use Rattle.table.specs.Windows.{opens, closes}
-use Rattle.jobs.specs.Works.{Work, primary, alternate}
-use Rattle.jobs.specs.History.{primaries, alternates}
+use Rattle.slots.specs.OneSlot.{Work, primary, alternate}
+use Rattle.slots.specs.History.{primaries, alternates}
 
 -- in a slot t with s ≤ t < e row k's primary ran and was reported done
 abbrev pub Finished : ℕ → (ℕ → Work) → (ℕ → ℕ) → ℕ → ℕ → Type 0

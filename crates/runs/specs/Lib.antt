@@ -1,3 +1,2 @@
-pub mod Exactly
 pub mod Demand3
 pub mod Demand2

@@ -2,12 +2,11 @@
 -- Assumes nothing: these are definitions.
 use Rattle.std.specs.Prelude.{◌≡◌, List, ℕ, zero, suc, ◌<◌, length}
 use Rattle.table.specs.declared.Row.{Row}
-use Rattle.jobs.specs.declared.State.TheVariants.{Waiting}
-use Rattle.jobs.specs.declared.Job.{Job}
-use Rattle.jobs.specs.Jobs.{job_at}
-use Rattle.jobs.specs.Works.{Work, idle, primary, alternate}
+use Rattle.slots.specs.declared.State.TheVariants.{Waiting}
+use Rattle.slots.specs.declared.Job.{Job}
 use Rattle.slots.specs.declared.Record.{Record}
-use Rattle.slots.specs.OneSlot.{holder_at}
+use Rattle.slots.specs.Records.{job_at}
+use Rattle.slots.specs.OneSlot.{Work, idle, primary, alternate, holder_at}
 
 -- in a slot that no row holds: nothing, or a waiting row's primary
 abbrev pub Free : List Row → List Job → Work → Type 0

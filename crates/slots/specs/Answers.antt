@@ -1,6 +1,6 @@
 -- The answers of the question, of one slot and of a list of reports, refused ones too.
 -- Assumes nothing: these are definitions.
-use Rattle.std.specs.Prelude.{ℕ, cond, ◌||◌, List, ◌++◌, ltb, length, drop}
+use Rattle.std.specs.Prelude.{ℕ, ◌-◌, cond, ◌||◌, List, ◌++◌, ltb, length, drop, replicate}
 use Rattle.refusal.specs.declared.Refusal.{Refusal}
 use Rattle.refusal.specs.declared.Refusal.TheVariants.{Room}
 use Rattle.refusal.specs.Order.{accepted, given, or_else, beside}
@@ -8,16 +8,15 @@ use Rattle.refusal.specs.Lent.{overlaid}
 use Rattle.table.specs.declared.Row.{Row}
 use Rattle.table.specs.declared.Table.{Table}
 use Rattle.table.specs.Rows.{used, cycle_of}
-use Rattle.buffer.specs.Buffer.{reservations_from}
-use Rattle.jobs.specs.Works.{byte_of}
-use Rattle.jobs.specs.Report.{report_refusal}
+use Rattle.rule.specs.Sweep.{holders}
+use Rattle.reserve.specs.Tables.{ends}
 use Rattle.slots.specs.declared.Record.{Record}
 use Rattle.slots.specs.declared.Asked.{Asked}
 use Rattle.slots.specs.declared.Stepped.{Stepped}
 use Rattle.slots.specs.declared.Ran.{Ran}
-use Rattle.slots.specs.Sound.{lefts, record_refusal}
-use Rattle.slots.specs.OneSlot.{what, step_of}
-use Rattle.slots.specs.Reports.{Outcome, stopped, run_of}
+use Rattle.slots.specs.Sound.{claims_of, record_refusal}
+use Rattle.slots.specs.OneSlot.{what, byte_of, step_of}
+use Rattle.slots.specs.Reports.{report_refusal, Outcome, stopped, run_of}
 
 -- ---- the question: 'what runs at the clock, as the log's byte and without a report'; 1 to 7, then 9
 unfoldable pub asked_of : Table → Record → Asked
@@ -42,11 +41,11 @@ unfoldable pub outcome_of : Table → Record → (reps old kept : List ℕ) → 
 outcome_of t q reps old kept = cond (accepted (entry_refusal t q reps old kept)) (run_of (used t) q reps) (stopped (entry_refusal t q reps old kept) q)
 
 -- 'it answers the number, the slots accepted, the record after them'
-abbrev pub ran_with : Outcome → Ran
-ran_with o = record { refusal = o.refusal; slots = length o.log; next = o.next }
+abbrev pub told : Outcome → Ran
+told o = record { refusal = o.refusal; slots = length o.log; next = o.next }
 
 unfoldable pub ran_by : Table → Record → (reps old kept : List ℕ) → Ran
-ran_by t q reps old kept = ran_with (outcome_of t q reps old kept)
+ran_by t q reps old kept = told (outcome_of t q reps old kept)
 
 -- 'and their log bytes, later bytes untouched'
 unfoldable pub log_after : Table → Record → (reps old kept : List ℕ) → List ℕ
@@ -56,7 +55,7 @@ log_after t q reps old kept =
 
 -- 'the buffer's first bytes, one for each slot of the cycle, hold the reservations of the record handed back, with 0 for slots behind its clock'
 unfoldable pub reservations_of : List Row → Record → List ℕ
-reservations_of rs q = reservations_from rs q.clock (lefts q.jobs)
+reservations_of rs q = replicate q.clock 0 ++ holders (ends rs) (claims_of rs q) (length rs) q.clock (cycle_of rs - q.clock)
 
 -- 'later bytes stay. A refusal other than 10 or 11 leaves the buffer untouched, while 10 or 11 leaves it built, even at the first slot'
 unfoldable pub buffer_after : Table → Record → (reps old kept : List ℕ) → List ℕ

@@ -2,9 +2,8 @@
 -- Assumes nothing: these are definitions.
 use Rattle.std.specs.Prelude.{◌≡◌, List, ℕ, suc, ◌<◌}
 use Rattle.table.specs.declared.Row.{Row}
-use Rattle.jobs.specs.Works.{Work}
 use Rattle.slots.specs.declared.Record.{Record}
-use Rattle.slots.specs.OneSlot.{step_by}
+use Rattle.slots.specs.OneSlot.{Work, step_by}
 use Rattle.slots.specs.Allowed.{Allowed}
 
 -- N slots from the record q: slot t, the t-th since q, finds the record recs t, runs works t and has the report reports t

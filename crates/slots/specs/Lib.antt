@@ -1,10 +1,13 @@
 pub mod Records
 pub mod Sound
 pub mod OneSlot
+pub mod Buffer
 pub mod WaitingSet
+pub mod History
 pub mod Reports
 pub mod Answers
 pub mod LostUnits
 pub mod Allowed
 pub mod Course
-pub mod Private
+pub mod Exactly
+pub mod Turns

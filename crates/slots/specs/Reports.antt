@@ -1,15 +1,22 @@
 -- A list of reports, run slot by slot.
 -- Assumes nothing: these are definitions.
-use Rattle.std.specs.Prelude.{ℕ, zero, suc, cond, List, [], ◌∷◌}
+use Rattle.std.specs.Prelude.{ℕ, zero, suc, Bool, true, false, not, cond, ◌&&◌, List, [], ◌∷◌, ltb}
 use Rattle.refusal.specs.declared.Refusal.{Refusal}
-use Rattle.refusal.specs.declared.Refusal.TheVariants.{None}
-use Rattle.refusal.specs.Order.{accepted}
+use Rattle.refusal.specs.declared.Refusal.TheVariants.{None, Report, Stray}
+use Rattle.refusal.specs.Order.{accepted, given, or_else}
 use Rattle.table.specs.declared.Row.{Row}
-use Rattle.jobs.specs.Works.{byte_of}
-use Rattle.jobs.specs.History.{reported}
-use Rattle.jobs.specs.Report.{report_refusal}
 use Rattle.slots.specs.declared.Record.{Record}
-use Rattle.slots.specs.OneSlot.{what, step_of}
+use Rattle.slots.specs.OneSlot.{Work, idle, primary, alternate, what, byte_of, step_of}
+use Rattle.slots.specs.History.{reported}
+
+abbrev pub ran_primary : Work → Bool
+ran_primary idle = false
+ran_primary (primary k) = true
+ran_primary (alternate k) = false
+
+-- 10: 'a report is over 2', before 11: 'report 1 or 2 for a slot that ran no primary'
+unfoldable pub report_refusal : Work → ℕ → Refusal
+report_refusal w rep = or_else (given (ltb 2 rep) Report) (given (ltb 0 rep && not (ran_primary w)) Stray)
 
 -- what a run gives: the refusal that stopped it, the record after the accepted slots, and their log bytes
 pub record Outcome : Type 0 where

@@ -1,6 +1,6 @@
 -- When a record is sound.
 -- Assumes nothing: these are definitions.
-use Rattle.std.specs.Prelude.{ℕ, Bool, not, ◌&&◌, List, map, ltb, eqb, length}
+use Rattle.std.specs.Prelude.{ℕ, Bool, not, ◌&&◌, List, map, ltb, leb, eqb, length}
 use Rattle.refusal.specs.declared.Refusal.{Refusal}
 use Rattle.refusal.specs.declared.Refusal.TheVariants.{Record as NotSound}
 use Rattle.refusal.specs.Order.{given, or_else}
@@ -11,9 +11,23 @@ use Rattle.rule.specs.Slots.{every}
 use Rattle.rule.specs.Rule.{tight_row}
 use Rattle.reserve.specs.Tables.{ends, claims}
 use Rattle.reserve.specs.Check.{table_refusal}
-use Rattle.jobs.specs.declared.Job.{Job}
-use Rattle.jobs.specs.Jobs.{job_at, job_fits}
+use Rattle.slots.specs.declared.State.{State}
+use Rattle.slots.specs.declared.State.TheVariants.{Waiting, Failed, Done}
+use Rattle.slots.specs.declared.Job.{Job}
 use Rattle.slots.specs.declared.Record.{Record}
+use Rattle.slots.specs.Records.{job_at}
+
+-- what a job of each state has, in a row with the primary time p and the alternate time a; u units run
+abbrev pub state_fits : State → (p a u left : ℕ) → Bool
+-- 'a waiting job has u from 0 to p-1 and a units left'
+state_fits Waiting p a u left = ltb u p && eqb left a
+-- 'a failed job has u from 0 to p and left from 0 to a'
+state_fits Failed p a u left = leb u p && leb left a
+-- 'a done job has u from 1 to p and 0 left'
+state_fits Done p a u left = leb 1 u && (leb u p && eqb left 0)
+
+unfoldable pub job_fits : Row → Job → Bool
+job_fits r j = state_fits j.state r.primary r.alternate j.run j.left
 
 -- each row's current job has what its state says; entries past the rows are not looked at
 unfoldable pub jobs_fit : List Row → List Job → Bool

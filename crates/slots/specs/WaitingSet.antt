@@ -6,7 +6,7 @@ use Rattle.table.specs.declared.Row.{Row}
 use Rattle.table.specs.declared.Table.{Table}
 use Rattle.table.specs.Rows.{used}
 use Rattle.rule.specs.Slots.{unit, count}
-use Rattle.jobs.specs.declared.Job.{Job}
+use Rattle.slots.specs.declared.Job.{Job}
 use Rattle.slots.specs.declared.Record.{Record}
 use Rattle.slots.specs.declared.Awaiting.{Awaiting}
 use Rattle.slots.specs.Sound.{record_refusal}

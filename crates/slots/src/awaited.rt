@@ -1,12 +1,11 @@
 // The rows that wait, as a set of 16 bits, row 1 in the lowest place.
 ghost use Rattle.std.specs.Prelude.{◌≡◌, ◌+◌, ◌*◌, ◌≤◌, ◌<◌};
 ghost use Rattle.rule.specs.Slots.{unit};
-ghost use Rattle.jobs.specs.Jobs.{is_waiting};
-ghost use Rattle.slots.specs.OneSlot.{waits};
+ghost use Rattle.slots.specs.OneSlot.{is_waiting, waits};
 ghost use Rattle.slots.specs.WaitingSet.{set_from};
-ghost use Rattle.slots.specs.Private.{members_of, lowest_in};
+ghost use Rattle.slots.specs.Turns.{members_of, lowest_in};
 
-use jobs::{Job, State};
+use crate::{Job, State};
 
 // The set, its lowest member counted from 1, 0 of the empty set, and the count of its members.
 #[derive(Clone, Copy)]
@@ -28,11 +27,10 @@ pub(crate) fn bit(state: State) -> u16
 }
 
 // The set with one place more below the others, which is a member where its job waits.
-pub(crate) fn joined(set: u16, j: Job) -> u16
+pub(crate) fn joined(set: u16, state: State) -> u16
     requires { set < 32768 }
-    ensures { result ≡ unit (is_waiting j.state) + 2 * set }
+    ensures { result ≡ unit (is_waiting state) + 2 * set }
 {
-    let state = j.state;
     let b = bit(state);
     b + 2 * set
 }
@@ -46,7 +44,9 @@ pub(crate) fn waiting_set(jobs: [Job; 16], n: u8) -> u16
     let mut x: u16 = 0;
     while 0 < i {
         i -= 1;
-        x = joined(x, jobs[i as usize]);
+        let j = jobs[i as usize];
+        let state = j.state;
+        x = joined(x, state);
     }
     x
 }

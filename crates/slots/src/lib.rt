@@ -1,25 +1,40 @@
 // The record of a table's run, by value: what stands at a clock, one slot, and a list of reports.
 #![tactic(auto)]
 
-ghost use Rattle.std.specs.Prelude.{◌≡◌, ◌≤◌, replicate};
-ghost use Rattle.table.specs.Rows.{used};
-ghost use Rattle.jobs.specs.Jobs.{no_job};
+ghost use Rattle.std.specs.Prelude.{◌≡◌, ◌≤◌};
 ghost use Rattle.slots.specs.Records.{fresh_jobs, started_for};
 ghost use Rattle.slots.specs.WaitingSet.{awaiting_of};
 ghost use Rattle.slots.specs.Answers.{asked_of, stepped_by, ran_by, log_after, buffer_after};
 ghost use Rattle.slots.specs.LostUnits.{lost_from, lost_fresh};
-ghost use Rattle.slots.specs.Private.{started_with};
+ghost use Rattle.slots.specs.Turns.{started_with};
+ghost use Rattle.table.specs.Rows.{used};
 
-use jobs::{Job, State};
 use refusal::Refusal;
 use table::Table;
 
 mod awaited;
-mod chosen;
+mod buffer;
+mod entry;
 mod listed;
 mod opening;
 mod slot;
 mod turn;
+
+// A row's current job: its primary may still run, or has failed (reported, overrun or aborted), or is done.
+#[derive(Clone, Copy)]
+pub enum State {
+    Waiting,
+    Failed,
+    Done,
+}
+
+// A row's current job: its state, the primary units run and the alternate units left.
+#[derive(Clone, Copy)]
+pub struct Job {
+    pub state: State,
+    pub run: u16,
+    pub left: u16,
+}
 
 // A record: the clock, and each row's current job. Entries past the table's rows are ignored and handed back as they came.
 #[derive(Clone, Copy)]
@@ -74,28 +89,17 @@ pub struct Lost {
     pub units: u64,
 }
 
-// The entries where no row has a job.
-fn no_jobs() -> [Job; 16]
-    ensures { result ≡ replicate 16 no_job }
-{
-    [Job {
-        state: State::Waiting,
-        run: 0,
-        left: 0,
-    }; 16]
-}
-
 // The entries of a fresh record.
 fn fresh_jobs(t: Table) -> [Job; 16]
     requires { t.n ≤ 16 }
     ensures { result ≡ fresh_jobs (used t) }
 {
     let n = t.n;
-    let mut jobs = no_jobs();
+    let mut jobs = entry::no_jobs();
     let mut i: u8 = 0;
     while i < n {
         let at = i as usize;
-        jobs[at] = Job::new(t.rows[at]);
+        jobs[at] = entry::new_job(t.rows[at]);
         i += 1;
     }
     jobs
@@ -119,7 +123,7 @@ pub fn fresh(t: Table) -> Started
     let f = checked.refusal;
     match f {
         Refusal::None => start_with(Refusal::None, fresh_jobs(t)),
-        _ => start_with(f, no_jobs()),
+        _ => start_with(f, entry::no_jobs()),
     }
 }
 
@@ -143,7 +147,7 @@ impl Record {
             Refusal::None => {
                 let jobs = self.jobs;
                 let waiting = awaited::awaited_rows(jobs, t.n);
-                let ran = chosen::byte_of(admitted.holder, waiting.row);
+                let ran = slot::byte_of(admitted.holder, waiting.row);
                 Asked {
                     refusal: Refusal::None,
                     ran,

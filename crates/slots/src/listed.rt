@@ -1,47 +1,24 @@
 // A list of reports from a sound record, slot by slot, with the reservations kept in a lent buffer.
 ghost use Rattle.std.specs.Prelude.{◌≡◌, ◌||◌, ◌≤◌, ◌<◌, ltb, length, set};
-ghost use Rattle.refusal.specs.declared.Refusal.TheVariants.{None};
 ghost use Rattle.table.specs.Rows.{used};
-ghost use Rattle.buffer.specs.Private.{Kept};
 ghost use Rattle.slots.specs.Reports.{run_of};
 ghost use Rattle.slots.specs.Answers.{ran_by, log_after, buffer_after};
 ghost use Rattle.slots.specs.LostUnits.{lost_from};
-ghost use Rattle.slots.specs.Sound.{lefts};
-ghost use Rattle.slots.specs.Private.{Stale, Steady, PoisedAt, RunLeaves, lost_by, lost_with};
+ghost use Rattle.refusal.specs.declared.Refusal.TheVariants.{None};
+ghost use Rattle.slots.specs.Buffer.{Kept, Stale};
+ghost use Rattle.slots.specs.Turns.{Steady, Standing, RunLeaves, lost_by, lost_with};
 
-use crate::{Lost, Ran, Record, awaited, opening, slot, turn};
-use jobs::Job;
+use crate::{Job, Lost, Ran, Record, awaited, buffer, entry, opening, turn};
 use refusal::Refusal;
 use table::Table;
 
 // What a list has come to: the refusal that stopped it, the slots accepted, the record after them, and the units that they lost.
 #[derive(Clone, Copy)]
-pub(crate) struct ListRun {
+pub(crate) struct Course {
     pub refusal: Refusal,
     pub slots: usize,
     pub next: Record,
     pub lost: u64,
-}
-
-// Where a stretch begins: the clock, the entries, their waiting set, and the next slot at which a window opens.
-#[derive(Clone, Copy)]
-struct Poised {
-    clock: u16,
-    jobs: [Job; 16],
-    waiting: u16,
-    opens: u16,
-}
-
-// What a list has come to before the slot at the clock.
-fn come_to(refusal: Refusal, slots: usize, clock: u16, jobs: [Job; 16], lost: u64) -> ListRun
-    ensures { result ≡ record { refusal = refusal; slots = slots; next = record { clock = clock; jobs = jobs }; lost = lost } }
-{
-    ListRun {
-        refusal,
-        slots,
-        next: Record { clock, jobs },
-        lost,
-    }
 }
 
 // The log's byte for the i-th slot, where the log is that long.
@@ -56,83 +33,102 @@ fn put(log: &mut [u8], i: usize, ran: u8)
 // Makes the buffer true again as a stretch has ended, at the next record: it is built anew at slot 0, and refilled after a done.
 fn keep(t: Table, cycle: u16, clock: u16, jobs: [Job; 16], finished: u8, kept: &mut [u8])
     requires { Steady t cycle (record { clock = clock; jobs = jobs }) × (cycle ≤ length kept.old) × Stale (used t) cycle (record { clock = clock; jobs = jobs }) finished kept.old }
-    ensures { Kept (used t) cycle clock (lefts jobs) kept.old kept.new }
+    ensures { Kept (used t) cycle (record { clock = clock; jobs = jobs }) kept.old kept.new }
 {
     if clock == 0 {
-        buffer::build(t, cycle, clock, slot::left_units(jobs), kept);
+        buffer::build(t, cycle, clock, jobs, kept);
         return;
     }
     if finished == 0 {
         return;
     }
     let place = finished - 1;
-    let row = t.rows[place as usize];
-    let end = row.window_end(clock as u32 - 1) as u16;
+    let end = opening::window_end(t.rows[place as usize], clock - 1);
     if clock < end {
-        buffer::refill(t, clock, slot::left_units(jobs), place, end, kept);
+        buffer::refill(t, cycle, clock, jobs, place, end, kept);
     }
 }
 
-// Runs the list in stretches from where it stands, with the buffer true of it. A stretch ends where a window opens, after a done, and with the list: in it no row is looked at but the one
-// that runs, and the reservations stay as they are. One function, since arrays that are handed over at each stretch cost more than its slots.
+// Runs the list in stretches, from the record of this clock and these entries, with its waiting set, the next slot at which a window opens, and the buffer true of it. A stretch ends
+// where a window opens, after a done, and with the list: in it no row is looked at but the one that runs, and the reservations stay as they are.
 fn run_stretches(
-    from: Poised,
+    c: u16,
+    js: [Job; 16],
+    set: u16,
+    next: u16,
     t: Table,
     cycle: u16,
     reports: &[u8],
     log: &mut [u8],
     kept: &mut [u8],
-) -> ListRun
-    requires { PoisedAt t cycle from.clock from.jobs from.waiting from.opens kept.old }
-    ensures ran { RunLeaves (run_of (used t) (record { clock = from.clock; jobs = from.jobs }) reports.now) log.old result.refusal result.slots result.next log.new }
-    ensures lost { result.refusal ≡ None → result.lost ≡ lost_by (used t) (record { clock = from.clock; jobs = from.jobs }) reports.now }
-    ensures kept { Kept (used t) cycle result.next.clock (lefts result.next.jobs) kept.old kept.new }
+) -> Course
+    requires { Standing t cycle c js set next kept.old }
+    ensures course { RunLeaves (run_of (used t) (record { clock = c; jobs = js }) reports.now) log.old result.refusal result.slots result.next log.new }
+    ensures lost { result.refusal ≡ None → result.lost ≡ lost_by (used t) (record { clock = c; jobs = js }) reports.now }
+    ensures kept { Kept (used t) cycle result.next kept.old kept.new }
 {
-    let mut jobs = from.jobs;
-    let mut clock = from.clock;
-    let mut waiting = from.waiting;
-    let mut opens = from.opens;
+    let mut jobs = js;
+    let mut clock = c;
+    let mut waiting = set;
+    let mut opens = next;
     let mut lost: u64 = 0;
     let mut i: usize = 0;
     while i < reports.len() {
-        let mut stop = table::stretch(i, opens - clock, reports.len());
+        let mut stop = turn::stretch(i, reports.len(), opens - clock);
         let mut finished: u8 = 0;
         while i < stop {
             let report = reports[i];
             let chosen = turn::decide(kept[clock as usize], waiting, report);
             let f = chosen.refusal;
             match f {
-                Refusal::None => {}
-                _ => return come_to(f, i, clock, jobs, lost),
+                Refusal::None => {
+                    let at = chosen.at as usize;
+                    let moved = turn::act(
+                        t.rows[at], jobs[at], waiting, chosen.at, chosen.ran, report,
+                    );
+                    let job = moved.job;
+                    jobs[at] = job;
+                    waiting = moved.waiting;
+                    lost += moved.lost as u64;
+                    finished = moved.finished;
+                    put(log, i, chosen.ran);
+                    kept[clock as usize] = 0;
+                    clock += 1;
+                    i += 1;
+                    stop = turn::cut(finished, i, stop);
+                }
+                _ => {
+                    return Course {
+                        refusal: f,
+                        slots: i,
+                        next: Record { clock, jobs },
+                        lost,
+                    };
+                }
             }
-            let at = chosen.at as usize;
-            let moved = turn::act(t.rows[at], jobs[at], waiting, chosen.at, chosen.ran, report);
-            let job = moved.job;
-            jobs[at] = job;
-            waiting = moved.waiting;
-            lost += moved.lost as u64;
-            finished = moved.finished;
-            put(log, i, chosen.ran);
-            kept[clock as usize] = 0;
-            clock += 1;
-            i += 1;
-            stop = turn::cut(finished, i, stop);
         }
         clock = opening::wrapped(clock, cycle);
         waiting = 0;
         opens = cycle;
-        let mut k = t.n as usize;
+        let mut k = t.n;
         while 0 < k {
             k -= 1;
-            let was = jobs[k];
-            let job = was.come(t.rows[k], clock);
-            jobs[k] = job;
-            waiting = awaited::joined(waiting, job);
-            opens = opening::nearer(opens, t.rows[k], clock);
+            let at = k as usize;
+            let row = t.rows[at];
+            let job = entry::come(row, clock, jobs[at]);
+            jobs[at] = job;
+            let state = job.state;
+            waiting = awaited::joined(waiting, state);
+            opens = opening::nearer(opens, row, clock);
         }
         keep(t, cycle, clock, jobs, finished, kept);
     }
-    come_to(Refusal::None, i, clock, jobs, lost)
+    Course {
+        refusal: Refusal::None,
+        slots: i,
+        next: Record { clock, jobs },
+        lost,
+    }
 }
 
 // Builds the buffer, whatever it held, and runs the list over it. The log may be shorter than the list: no byte is written past it.
@@ -143,24 +139,18 @@ pub(crate) fn run_list(
     reports: &[u8],
     log: &mut [u8],
     kept: &mut [u8],
-) -> ListRun
+) -> Course
     requires { Steady t cycle start × (cycle ≤ length kept.old) }
-    ensures ran { RunLeaves (run_of (used t) start reports.now) log.old result.refusal result.slots result.next log.new }
+    ensures course { RunLeaves (run_of (used t) start reports.now) log.old result.refusal result.slots result.next log.new }
     ensures lost { result.refusal ≡ None → result.lost ≡ lost_by (used t) start reports.now }
-    ensures kept { Kept (used t) cycle result.next.clock (lefts result.next.jobs) kept.old kept.new }
+    ensures kept { Kept (used t) cycle result.next kept.old kept.new }
 {
     let jobs = start.jobs;
     let clock = start.clock;
-    buffer::build(t, cycle, clock, slot::left_units(jobs), kept);
+    buffer::build(t, cycle, clock, jobs, kept);
     let waiting = awaited::waiting_set(jobs, t.n);
     let opens = opening::next_opening(t, cycle, clock);
-    let from = Poised {
-        clock,
-        jobs,
-        waiting,
-        opens,
-    };
-    run_stretches(from, t, cycle, reports, log, kept)
+    run_stretches(clock, jobs, waiting, opens, t, cycle, reports, log, kept)
 }
 
 // Whether the log or the buffer is shorter than its use.
@@ -208,12 +198,12 @@ pub(crate) fn run_admitted(
             next: q,
         };
     }
-    let ran = run_list(q, t, cycle, reports, log, buffer);
-    let refusal = ran.refusal;
-    let next = ran.next;
+    let course = run_list(q, t, cycle, reports, log, buffer);
+    let refusal = course.refusal;
+    let next = course.next;
     Ran {
         refusal,
-        slots: ran.slots,
+        slots: course.slots,
         next,
     }
 }
@@ -225,7 +215,7 @@ pub(crate) fn lost_admitted(q: Record, t: Table, cycle: u16, reports: &[u8]) -> 
 {
     let mut log = [0u8; 0];
     let mut buffer = [0u8; 4096];
-    let ran = run_list(q, t, cycle, reports, &mut log, &mut buffer);
-    let stop = ran.refusal;
-    lost_with(stop, ran.lost)
+    let course = run_list(q, t, cycle, reports, &mut log, &mut buffer);
+    let stop = course.refusal;
+    lost_with(stop, course.lost)
 }

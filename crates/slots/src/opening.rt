@@ -2,8 +2,8 @@
 ghost use Rattle.std.specs.Prelude.{◌≡◌, cond, ◌<◌, min, eqb};
 ghost use Rattle.table.specs.Rows.{used};
 ghost use Rattle.table.specs.Windows.{window_end};
-ghost use Rattle.reserve.specs.Private.{Ready};
-ghost use Rattle.slots.specs.Private.{Quiet};
+ghost use Rattle.reserve.specs.Turns.{Ready};
+ghost use Rattle.slots.specs.Turns.{Quiet};
 
 use table::{Row, Table};
 
@@ -14,16 +14,21 @@ pub(crate) fn wrapped(clock: u16, cycle: u16) -> u16
     if clock == cycle { 0 } else { clock }
 }
 
+// The end of the window that slot s is in.
+pub(crate) fn window_end(r: Row, s: u16) -> u16
+    requires { (0 < r.period) × (window_end r s < 65536) }
+    ensures { result ≡ window_end r s }
+{
+    (s / r.period + 1) * r.period
+}
+
 // The earlier of a slot and the end of the window that slot s is in.
 pub(crate) fn nearer(opens: u16, r: Row, s: u16) -> u16
+    requires { (0 < r.period) × (window_end r s < 65536) }
     ensures { result ≡ min opens (window_end r s) }
 {
-    let end = r.window_end(s as u32);
-    if (opens as u64) < end {
-        opens
-    } else {
-        end as u16
-    }
+    let end = window_end(r, s);
+    if opens < end { opens } else { end }
 }
 
 // The next slot after s at which a window opens, of those up to the cycle's end.

@@ -1,16 +1,15 @@
 // One slot of a record.
 ghost use Rattle.std.specs.Prelude.{◌≡◌, ◌&&◌, ◌≤◌, ◌<◌, ltb, eqb};
 ghost use Rattle.table.specs.Rows.{used};
-ghost use Rattle.reserve.specs.Private.{Ready};
-ghost use Rattle.jobs.specs.Works.{work_of};
-ghost use Rattle.jobs.specs.Report.{report_refusal};
+ghost use Rattle.reserve.specs.Turns.{Ready};
 ghost use Rattle.slots.specs.Sound.{jobs_fit, lefts};
-ghost use Rattle.slots.specs.OneSlot.{next_clock, worked, renewed, step_by, what, holder_at};
+ghost use Rattle.slots.specs.OneSlot.{reserved, unreserved, byte_of, next_clock, worked, renewed, step_by, what, holder_at};
+ghost use Rattle.slots.specs.Reports.{report_refusal};
+ghost use Rattle.slots.specs.History.{work_of};
 ghost use Rattle.slots.specs.Answers.{slot_under};
-ghost use Rattle.slots.specs.Private.{Workable, Steady, admitted_of};
+ghost use Rattle.slots.specs.Turns.{Workable, Steady, admitted_of};
 
-use crate::{Record, Stepped, awaited, chosen};
-use jobs::Job;
+use crate::{Job, Record, Stepped, awaited, entry, turn};
 use refusal::Refusal;
 use table::Table;
 
@@ -23,7 +22,7 @@ pub(crate) struct Admitted {
 }
 
 // What is left of each entry's job.
-pub(crate) fn left_units(jobs: [Job; 16]) -> [u16; 16]
+fn left_units(jobs: [Job; 16]) -> [u16; 16]
     ensures { result ≡ lefts jobs }
 {
     let mut left = [0u16; 16];
@@ -45,8 +44,7 @@ fn all_fit(t: Table, jobs: [Job; 16]) -> bool
     let mut i: u8 = 0;
     while i < n {
         let at = i as usize;
-        let j = jobs[at];
-        if j.fits(t.rows[at]) {
+        if entry::fits(t.rows[at], jobs[at]) {
             i += 1;
         } else {
             return false;
@@ -100,16 +98,48 @@ pub(crate) fn admit(q: Record, t: Table) -> Admitted
     }
 }
 
+// The log's byte for a slot with a holder, and the lowest waiting row where it has none.
+pub(crate) fn byte_of(holder: u8, row: u8) -> u8
+    requires { holder ≤ 16 }
+    ensures { result ≡ byte_of (reserved holder (unreserved row)) }
+{
+    if holder == 0 { row } else { 16 + holder }
+}
+
+// 11 where the byte is no primary unit's.
+fn stray(ran: u8) -> Refusal
+    ensures { result ≡ report_refusal (work_of ran) 1 }
+{
+    if ran == 0 {
+        Refusal::Stray
+    } else if ran <= 16 {
+        Refusal::None
+    } else {
+        Refusal::Stray
+    }
+}
+
+// The report is read: 0 going on, 1 done, 2 failed; over 2 it is refused, and 1 and 2 are for a primary unit alone.
+pub(crate) fn report_refusal(ran: u8, report: u8) -> Refusal
+    ensures { result ≡ report_refusal (work_of ran) report }
+{
+    match report {
+        0 => Refusal::None,
+        1 => stray(ran),
+        2 => stray(ran),
+        3..=255 => Refusal::Report,
+    }
+}
+
 // The entries after the slot's unit and its report.
 fn after_unit(t: Table, jobs: [Job; 16], ran: u8, report: u8) -> [Job; 16]
     requires { Workable t jobs ran }
     ensures { result ≡ worked (work_of ran) report (used t) jobs }
 {
-    let mut after = jobs;
-    let at = chosen::entry_of(ran) as usize;
-    let j = jobs[at];
-    after[at] = j.moved(t.rows[at], ran, report);
-    after
+    let mut next = jobs;
+    let at = turn::entry_of(ran) as usize;
+    next[at] = turn::moved_job(t.rows[at], jobs[at], ran, report);
+    next
 }
 
 // The entries as the clock comes to c: each row whose window starts there has a new job.
@@ -118,15 +148,14 @@ fn after_clock(t: Table, cycle: u16, c: u16, jobs: [Job; 16]) -> [Job; 16]
     ensures { result ≡ renewed c (used t) jobs }
 {
     let n = t.n;
-    let mut after = jobs;
+    let mut next = jobs;
     let mut i: u8 = 0;
     while i < n {
         let at = i as usize;
-        let j = jobs[at];
-        after[at] = j.come(t.rows[at], c);
+        next[at] = entry::come(t.rows[at], c, jobs[at]);
         i += 1;
     }
-    after
+    next
 }
 
 // The clock rises by 1, or goes to 0 at the cycle's end.
@@ -157,8 +186,8 @@ pub(crate) fn settle(q: Record, t: Table, cycle: u16, holder: u8, report: u8) ->
 {
     let jobs = q.jobs;
     let waiting = awaited::awaited_rows(jobs, t.n);
-    let ran = chosen::byte_of(holder, waiting.row);
-    let f = jobs::report_refusal(ran, report);
+    let ran = byte_of(holder, waiting.row);
+    let f = report_refusal(ran, report);
     match f {
         Refusal::None => {
             let next = next_record(q, t, cycle, ran, report);

@@ -1,14 +1,11 @@
 // One slot of a run, where the slot's holder and the waiting set are known: the body that every list of reports is run by. It works on numbers and one entry,
 // and writes no log.
 ghost use Rattle.std.specs.Prelude.{◌≡◌, true, cond, not, ◌&&◌, ◌-◌, ◌^◌, ◌≤◌, ◌<◌, eqb};
-ghost use Rattle.jobs.specs.Jobs.{is_waiting};
-ghost use Rattle.jobs.specs.Works.{work_of};
-ghost use Rattle.jobs.specs.Endings.{open_of};
-ghost use Rattle.slots.specs.OneSlot.{reserved, unreserved};
-ghost use Rattle.slots.specs.Private.{lowest_in, turn_of, loss_by, moved_of};
+ghost use Rattle.slots.specs.OneSlot.{is_waiting, reserved, unreserved};
+ghost use Rattle.slots.specs.History.{work_of};
+ghost use Rattle.slots.specs.Turns.{lowest_in, entry_of, moved_by, turn_of, loss_by, moved_of};
 
-use crate::{awaited, chosen};
-use jobs::{Job, LogByte, State};
+use crate::{Job, State, awaited, entry, slot};
 use refusal::Refusal;
 use table::Row;
 
@@ -29,16 +26,43 @@ pub(crate) struct Moved {
     pub finished: u8,
 }
 
+// The place of the entry that a byte's unit moves.
+pub(crate) fn entry_of(ran: u8) -> u8
+    ensures { result ≡ entry_of (work_of ran) }
+{
+    if ran == 0 {
+        0
+    } else if ran <= 16 {
+        ran - 1
+    } else {
+        ran - 17
+    }
+}
+
 // What runs, by the slot's holder and the waiting set, and whether its report is refused.
 pub(crate) fn decide(holder: u8, waiting: u16, report: u8) -> Turn
     requires { (holder ≤ 16) × (lowest_in waiting ≤ 16) }
     ensures { result ≡ turn_of (reserved holder (unreserved (lowest_in waiting))) report }
 {
     let row = awaited::lowest(waiting);
-    let ran = chosen::byte_of(holder, row);
-    let refusal = jobs::report_refusal(ran, report);
-    let at = chosen::entry_of(ran);
+    let ran = slot::byte_of(holder, row);
+    let refusal = slot::report_refusal(ran, report);
+    let at = entry_of(ran);
     Turn { refusal, ran, at }
+}
+
+// The entry after the byte's unit and its report.
+pub(crate) fn moved_job(r: Row, j: Job, ran: u8, report: u8) -> Job
+    requires { j.run < 65535 }
+    ensures { result ≡ moved_by (work_of ran) report r j }
+{
+    if ran == 0 {
+        j
+    } else if ran <= 16 {
+        entry::tried(r, j, report)
+    } else {
+        entry::fallen_back(j)
+    }
 }
 
 // The set without the place.
@@ -63,27 +87,18 @@ fn still_waiting(set: u16, at: u8, was: State, is: State) -> u16
     }
 }
 
-// The primary units of a job that waits.
-fn open_units(j: Job) -> u16
-    ensures { result ≡ open_of j }
-{
-    let state = j.state;
-    match state {
-        State::Waiting => j.run,
-        State::Failed => 0,
-        State::Done => 0,
-    }
-}
-
 // The primary units that the byte's unit loses: those of a waiting job whose alternate begins.
 fn lost_by(j: Job, ran: u8) -> u16
     ensures { result ≡ loss_by (work_of ran) j }
 {
-    let told = LogByte::of(ran);
-    match told {
-        LogByte::Idle => 0,
-        LogByte::Primary(_) => 0,
-        LogByte::Alternate(_) => open_units(j),
+    let state = j.state;
+    if ran <= 16 {
+        return 0;
+    }
+    match state {
+        State::Waiting => j.run,
+        State::Failed => 0,
+        State::Done => 0,
     }
 }
 
@@ -96,10 +111,10 @@ fn finished_by(ran: u8, report: u8) -> u8
 
 // The unit of the byte's row, at its entry's place, and what it leaves.
 pub(crate) fn act(r: Row, j: Job, set: u16, at: u8, ran: u8, report: u8) -> Moved
-    requires { (at < 16) × (is_waiting j.state ≡ true → 2 ^ at ≤ set) }
+    requires { (j.run < 65535) × (at < 16) × (is_waiting j.state ≡ true → 2 ^ at ≤ set) }
     ensures { result ≡ moved_of (work_of ran) report r j set at }
 {
-    let job = j.moved(r, ran, report);
+    let job = moved_job(r, j, ran, report);
     let was = j.state;
     let is = job.state;
     let waiting = still_waiting(set, at, was, is);
@@ -118,4 +133,14 @@ pub(crate) fn cut(finished: u8, i: usize, stop: usize) -> usize
     ensures { result ≡ cond (eqb finished 0) stop i }
 {
     if finished == 0 { stop } else { i }
+}
+
+// Where the stretch that begins at the i-th report ends: after `slots` slots, or with the list.
+pub(crate) fn stretch(i: usize, reports: usize, slots: u16) -> usize
+    requires { (i < reports) × (0 < slots) }
+    ensures { (i < result) × (result ≤ reports) × (result - i ≤ slots) }
+{
+    let room = reports - i;
+    let most = slots as usize;
+    if room < most { reports } else { i + most }
 }

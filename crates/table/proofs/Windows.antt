@@ -2,13 +2,12 @@
 -- Assumes nothing.
 use mathlib.Core.Path.{◌≡◌, refl, sym, ap, ◌∙◌}
 use mathlib.Core.Bool.{true, false}
-use Prim.Native.Nat.{min, ℕ, zero, suc, ◌+◌, ◌-◌, ◌*◌, ◌/◌, ◌%◌, ◌^◌, ◌≤◌, ◌<◌, ◌∣◌}
-use native.Mathlib.Nat.{le_trans, lt-div-mul-add, div-le_self, div-mul-le_self, div-eq_of_lt-le, div-lt_iff_lt-mul, le-div_iff_mul-le, mul-le-mul, mul-le-mul_right, mul-zero, zero-mul, mul-div_cancel, div-add-mod', div-mul_cancel, div-zero, dvd_of_mod-eq-zero, mul-mod_left, zero-mod, mod-zero, mod-lt, mod-eq_of_lt, suc-mod, mod-mod_of_dvd, mul-add-mod_self_right}
+use Prim.Native.Nat.{ℕ, zero, suc, ◌+◌, ◌-◌, ◌*◌, ◌/◌, ◌%◌, ◌≤◌, ◌<◌, ◌∣◌}
+use native.Mathlib.Nat.{le_trans, lt-div-mul-add, div-mul-le_self, div-eq_of_lt-le, div-lt_iff_lt-mul, le-div_iff_mul-le, mul-le-mul_right, mul-div_cancel, div-add-mod', div-mul_cancel, dvd_of_mod-eq-zero, mul-mod_left, zero-mod, mod-eq_of_lt, suc-mod, mod-mod_of_dvd, mul-add-mod_self_right}
 use native.Mathlib.Omega.{arith}
-use lib.Dec.{eqb}
 use borrow.Author.Tests.{eqb-true, eq-eqb, ne_eqb}
 use Rattle.table.specs.declared.Row.{Row}
-use Rattle.table.specs.Windows.{opens, closes, starts, window_end, wants, jobs_in}
+use Rattle.table.specs.Windows.{opens, closes, starts, window_end, wants}
 use Rattle.table.proofs.Good.{Good}
 
 pub end_is : (r : Row) (s : ℕ) → window_end r s ≡ s / r.period * r.period + r.period
@@ -103,12 +102,12 @@ module _ (r : Row) (good : Good r) where
       rw e (omega (arith, div-add-mod' s T, starts_rest r s h))
 
   -- ---- how many windows a multiple of the period holds
-  pub closes_count : (L j : ℕ) → T ∣ L → j ≤ jobs_in r L → closes r j ≤ L
-  unfolding closes jobs_in
+  pub closes_count : (L j : ℕ) → T ∣ L → j ≤ L / T → closes r j ≤ L
+  unfolding closes
   closes_count L j d l = (le-div_iff_mul-le good.period).0 l
 
-  pub count_closes : (L j : ℕ) → T ∣ L → closes r j ≤ L → j ≤ jobs_in r L
-  unfolding closes jobs_in
+  pub count_closes : (L j : ℕ) → T ∣ L → closes r j ≤ L → j ≤ L / T
+  unfolding closes
   count_closes L j d l = (le-div_iff_mul-le good.period).1 l
 
   pub opens_within : (L j : ℕ) → T ∣ L → 1 ≤ j → opens r j < L → closes r j ≤ L
@@ -143,52 +142,3 @@ module _ (r : Row) (good : Good r) where
         ∙ sym (suc-mod t T)
         ∙ ap (λ (n : ℕ). n % T) e
         ∙ mul-mod_left j T))
-
--- there are no more than slots
-pub jobs_most : (r : Row) (slots : ℕ) → jobs_in r slots ≤ slots
-unfolding jobs_in
-jobs_most r slots = div-le_self slots r.period
-
--- ---- the code's answers where there is no period, and how far it is to a window's end
-module _ (r : Row) where
-  module _ (none : r.period ≡ 0) where
-    pub none_end : (s : ℕ) → 0 ≡ window_end r s
-    unfolding window_end
-    none_end s = sym (ap (λ (p : ℕ). (s / r.period + 1) * p) none ∙ mul-zero (s / r.period + 1))
-
-    pub none_starts : (s : ℕ) → eqb s 0 ≡ starts r s
-    unfolding starts
-    none_starts s = sym (ap (λ (p : ℕ). eqb (s % p) 0) none ∙ ap (λ (n : ℕ). eqb n 0) (mod-zero s))
-
-    pub none_jobs : (slots : ℕ) → 0 ≡ jobs_in r slots
-    unfolding jobs_in
-    none_jobs slots = sym (ap (λ (p : ℕ). slots / p) none ∙ div-zero slots)
-
-  module _ (some : r.period ≡ 0 → ⊥) where
-    rest_less : (s : ℕ) → s % r.period < r.period
-    rest_less s = mod-lt s (omega arith)
-
-    pub rest_within : (s : ℕ) → s % r.period ≤ r.period
-    rest_within s = omega (arith, rest_less s)
-
-    pub away_is : (s : ℕ) → r.period - s % r.period ≡ window_end r s - s
-    away_is s = omega (arith, rest_less s, end_is r s, div-add-mod' s r.period)
-
--- there is no job 0
-pub opens_none : (r : Row) (j : ℕ) → j ≡ 0 → 0 ≡ opens r j
-unfolding opens
-opens_none r j e = sym (ap (λ (i : ℕ). (i - 1) * r.period) e ∙ zero-mul r.period)
-
--- the slots of 16-bit jobs fit 32 bits
-pub closes_fits : (j p : ℕ) → j < 2 ^ 16 → p < 2 ^ 16 → j * p < 2 ^ 32
-closes_fits j p l u =
-    let m : j ≤ 65535 = omega arith in
-    let n : p ≤ 65535 = omega arith in
-    omega (arith, mul-le-mul m n)
-
-pub opens_fits : (j k p : ℕ) → j < 2 ^ 16 → p < 2 ^ 16 → (j - k) * p < 2 ^ 32
-opens_fits j k p l u = closes_fits (j - k) p (omega arith) u
-
--- ---- a stretch of slots, from slot i on, that ends before n at the latest
-pub stretch_within : (i slots n r : ℕ) → r ≡ min (i + slots) n → i < n → 0 < slots → (i < r) × (r ≤ n) × (r - i ≤ slots)
-stretch_within i slots n r e l some = (omega arith, omega arith, omega arith)

@@ -1,6 +1,6 @@
 -- The jobs of a row and their windows.
 -- Assumes nothing: these are definitions.
-use Rattle.std.specs.Prelude.{ℕ, suc, ◌+◌, ◌-◌, ◌*◌, ◌/◌, ◌%◌, Bool, eqb}
+use Rattle.std.specs.Prelude.{ℕ, ◌+◌, ◌-◌, ◌*◌, ◌/◌, ◌%◌, Bool, eqb}
 use Rattle.table.specs.declared.Row.{Row}
 
 -- 'Job j of a row, j from 1, has the window from (j-1) times the period'
@@ -22,15 +22,3 @@ window_end r s = (s / r.period + 1) * r.period
 -- what a fresh job reserves in the window that slot s is in
 unfoldable pub wants : Row → ℕ → ℕ
 wants r s = r.alternate
-
--- how many jobs a row has in so many slots
-unfoldable pub jobs_in : Row → ℕ → ℕ
-jobs_in r slots = slots / r.period
-
--- the job whose window slot t is in
-abbrev pub job_in : Row → ℕ → ℕ
-job_in r t = suc (t / r.period)
-
--- where that window opens
-abbrev pub start_of : Row → ℕ → ℕ
-start_of r t = opens r (job_in r t)

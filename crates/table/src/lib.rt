@@ -1,14 +1,12 @@
 // Rows, tables of rows and their cycle, with the refusals of a table that come before the reservation rule.
 #![tactic(auto)]
 
-ghost use Rattle.std.specs.Prelude.{◌≡◌, cond, ◌+◌, ◌≤◌, min, leb};
+ghost use Rattle.std.specs.Prelude.{◌≡◌, cond, ◌≤◌, leb};
 ghost use Rattle.table.specs.Gcd.{gcd_of, lcm_of};
 ghost use Rattle.table.specs.Rows.{used, cycle_of};
 ghost use Rattle.table.specs.Check.{fault_of, faults_of, rows_check};
 
 use refusal::Refusal;
-
-mod window;
 
 // A periodic task: its period, and the times of its primary and of its alternate, in slots.
 #[derive(Clone, Copy)]
@@ -148,15 +146,4 @@ pub fn check_rows(t: Table) -> Checked
             cycle: 0,
         },
     }
-}
-
-// Where so many slots from slot i on end, or slot n where that comes before it.
-pub fn stretch(i: usize, slots: u16, n: usize) -> usize
-    ensures { result ≡ min (i + slots) n }
-{
-    if n <= i {
-        return n;
-    }
-    let most = slots as usize;
-    if n - i < most { n } else { i + most }
 }

@@ -13,16 +13,14 @@ use contract.Lifetimes.{Lfts}
 use borrow.Fn.Kinds.{Dens, res_t, ended_of}
 use Rattle.refusal.specs.declared.Refusal.{Refusal}
 use Rattle.refusal.specs.declared.Refusal.TheVariants.{None, Room}
-use Rattle.refusal.specs.declared.Handed.{Handed}
-use Rattle.refusal.specs.HandOut.{handed_refusal, handed}
-use Rattle.refusal.specs.Exactly.{HandedGives}
-use Rattle.refusal.proofs.HandedOut.{out_none, out_before, out_places, out_laid}
-use Rattle.refusal.proofs.Exactly.{handed_gives, handed_room}
 use Rattle.table.specs.declared.Table.{Table}
+use Rattle.reserve.specs.declared.Handed.{Handed}
 use Rattle.reserve.specs.Check.{table_refusal}
-use Rattle.reserve.specs.Exactly.{TableGives}
-use Rattle.reserve.proofs.Reading.Verdict.{table_accepted}
-use Rattle.reserve.proofs.Exactly.{table_gives, table_only}
+use Rattle.reserve.specs.Exactly.{TableGives, HandedGives}
+use Rattle.reserve.specs.HandOut.{handed_refusal, handed}
+use Rattle.reserve.proofs.HandedOut.{out_none, out_table, out_used, out_places}
+use Rattle.reserve.proofs.Verdict.{table_accepted}
+use Rattle.reserve.proofs.Exactly.{table_gives, handed_gives}
 use Rattle.tablefile.specs.declared.Reading.{Reading}
 use Rattle.tablefile.specs.Layout.{file_bytes}
 use Rattle.tablefile.specs.Answers.{file_refusal, read_as}
@@ -47,29 +45,26 @@ module _ (κs : Lfts 1) (given : Dens κs write-kinds.ps) (wrote : (res_t write-
   abbrev new : List ℕ
   new = left.1.0.now
 
-  wrote_refusal : wrote.refusal ≡ handed_refusal (table_refusal t) (file_bytes t) old
+  wrote_refusal : wrote.refusal ≡ handed_refusal t (file_bytes t) old
   unfolding handed
   wrote_refusal = ap (λ (h : Handed). h.refusal) meets.0
 
-  wrote_file : wrote.refusal ≡ None → take wrote.places new ≡ file_bytes t
+  wrote_file : wrote.refusal ≡ None → take wrote.used new ≡ file_bytes t
   wrote_file e =
-      let d : handed_refusal (table_refusal t) (file_bytes t) old ≡ None = sym wrote_refusal ∙ e in
-      let u : wrote.places ≡ length (file_bytes t) = ap (λ (h : Handed). h.places) meets.0 ∙ out_places (table_refusal t) (file_bytes t) old d in
-      ap (λ (l : List ℕ). take wrote.places l) (meets.1 ∙ out_laid (table_refusal t) (file_bytes t) old d) ∙ take_at (file_bytes t) (drop (length (file_bytes t)) old) wrote.places (sym u)
+      let d : handed_refusal t (file_bytes t) old ≡ None = sym wrote_refusal ∙ e in
+      let u : wrote.used ≡ length (file_bytes t) = ap (λ (h : Handed). h.used) meets.0 ∙ out_used t (file_bytes t) old d in
+      ap (λ (l : List ℕ). take wrote.used l) (meets.1 ∙ out_places t (file_bytes t) old d) ∙ take_at (file_bytes t) (drop (length (file_bytes t)) old) wrote.used (sym u)
 
   -- each of the writer's numbers exactly when document 01 says and no earlier one applies
-  pub write_gives : (f : Refusal) → (wrote.refusal ≡ f) ↔ HandedGives (TableGives t) (file_bytes t) old f
+  pub write_gives : (f : Refusal) → (wrote.refusal ≡ f) ↔ HandedGives t (file_bytes t) old f
   write_gives f =
-      let gives = handed_gives (TableGives t) (file_bytes t) old (table_gives t) f in
-      (λ e. gives.0 (sym wrote_refusal ∙ e), λ g. wrote_refusal ∙ gives.1 g)
+      (λ e. (handed_gives t (file_bytes t) old f).0 (sym wrote_refusal ∙ e), λ g. wrote_refusal ∙ (handed_gives t (file_bytes t) old f).1 g)
 
   -- 8: none of 1 to 7, and fewer than 4+6n bytes
   pub write_room : Places t → (wrote.refusal ≡ Room) ↔ (TableGives t None × (length old < 4 + 6 * t.n))
+  unfolding HandedGives
   write_room p =
-      let room = handed_room (TableGives t) (file_bytes t) old (λ g. omega (arith, table_only t Room g)) in (
-        λ e. let h = room.0 ((write_gives Room).0 e) in (h.0, omega (arith, h.1, size h.0)),
-        λ h. (write_gives Room).1 (room.1 (h.0, omega (arith, h.1, size h.0))),
-      )
+      (λ e. let h = (write_gives Room).0 e in (h.0, omega (arith, h.1, size h.0)), λ h. (write_gives Room).1 (h.0, omega (arith, h.1, size h.0)))
     where
       size : TableGives t None → length (file_bytes t) ≡ 4 + 6 * t.n
       size g = file_size t p (table_accepted t ((table_gives t None).1 g)).few
@@ -80,24 +75,24 @@ module _ (κs : Lfts 1) (given : Dens κs write-kinds.ps) (wrote : (res_t write-
     file = lent.0.now
 
     -- what was written reads back to the rows, with zeros past them
-    pub written_reads_back : Places t → wrote.refusal ≡ None → file ≡ take wrote.places new → (got.refusal ≡ None) × (got.table ≡ zeroed t)
+    pub written_reads_back : Places t → wrote.refusal ≡ None → file ≡ take wrote.used new → (got.refusal ≡ None) × (got.table ≡ zeroed t)
     written_reads_back p e f =
-        let a : table_refusal t ≡ None = out_before (table_refusal t) (file_bytes t) old (sym wrote_refusal ∙ e) in
+        let a : table_refusal t ≡ None = out_table t (file_bytes t) old (sym wrote_refusal ∙ e) in
         let r : got ≡ record { refusal = None; table = zeroed t } = reads ∙ ap read_as (f ∙ wrote_file e) ∙ read_back t p a in
         (ap (λ (g : Reading). g.refusal) r, ap (λ (g : Reading). g.table) r)
 
     -- an accepted file is, byte for byte, what the writer gives for the table read from it
     pub accepted_is_written : Bytes file → got.refusal ≡ None → t ≡ got.table → length file ≤ length old
-        → (wrote.refusal ≡ None) × (wrote.places ≡ length file) × (new ≡ file ++ drop (length file) old)
+        → (wrote.refusal ≡ None) × (wrote.used ≡ length file) × (new ≡ file ++ drop (length file) old)
     unfolding read_as
     accepted_is_written b e same room =
         let a : file_refusal file ≡ None = ap (λ (g : Reading). g.refusal) (sym reads) ∙ e in
         let same' : t ≡ (read_as file).table = same ∙ ap (λ (g : Reading). g.table) reads in
         let f : file_bytes t ≡ file = ap file_bytes same' ∙ written_back file a b in
-        let d : handed_refusal (table_refusal t) (file_bytes t) old ≡ None = out_none (table_refusal t) (file_bytes t) old (ap table_refusal same' ∙ read_accepted file a) (rw f room) in (
+        let d : handed_refusal t (file_bytes t) old ≡ None = out_none t (file_bytes t) old (ap table_refusal same' ∙ read_accepted file a) (rw f room) in (
           wrote_refusal ∙ d,
-          ap (λ (h : Handed). h.places) meets.0 ∙ out_places (table_refusal t) (file_bytes t) old d ∙ ap length f,
-          meets.1 ∙ out_laid (table_refusal t) (file_bytes t) old d ∙ ap (λ (l : List ℕ). l ++ drop (length l) old) f,
+          ap (λ (h : Handed). h.used) meets.0 ∙ out_used t (file_bytes t) old d ∙ ap length f,
+          meets.1 ∙ out_places t (file_bytes t) old d ∙ ap (λ (l : List ℕ). l ++ drop (length l) old) f,
         )
 
 -- the order of a file's refusals is document 01's: whatever meets the contract of `read` gives each number exactly when 01 says and no earlier one applies

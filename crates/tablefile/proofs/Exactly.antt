@@ -1,44 +1,139 @@
--- When each refusal of a table file is given.
+-- When each refusal of a table file is given. What specs/Exactly says of a refusal brings it about (`given_if`), and of every file it says something of some refusal (`some_gives`).
 -- Assumes nothing.
-use mathlib.Core.Path.{◌≡◌}
-use mathlib.Core.Logic.{inl, inr, ◌↔◌, ⊎_elim}
-use mathlib.Core.Bool.{true, not, ◌||◌}
+use mathlib.Core.Path.{◌≡◌, refl, sym, ◌∙◌}
+use mathlib.Core.Logic.{◌⊎◌, inl, inr, ◌↔◌, ◌≢◌, ⊎_elim}
+use mathlib.Core.Bool.{false}
 use mathlib.Core.List.{List}
-use Prim.Native.Nat.{ℕ, ◌<◌}
-use borrow.Author.Tests.{eqb-false, ne_eqb, ltb-true, lt-ltb, not-true}
-use lib.Dec.{ltb, eqb}
+use Prim.Native.Nat.{ℕ, ◌+◌, ◌≤◌, ◌<◌}
+use native.Mathlib.Nat.{eq-zero-or-pos, ne_of_gt}
+use native.Mathlib.Omega.{arith}
+use borrow.Author.Tests.{eqb-true, eqb-false}
+use lib.Dec.{eqb}
 use lib.ListN.{length}
 use Rattle.refusal.specs.declared.Refusal.{Refusal}
-use Rattle.refusal.specs.declared.Refusal.TheVariants.{Empty, Many, Size, Version}
-use Rattle.refusal.specs.Exactly.{Where, Unless, Then}
-use Rattle.refusal.proofs.Exactly.{same_exactly, less_exactly, where_gives, unless_gives, chain}
-use Rattle.rule.proofs.Numbers.Tests.{or_cases, or_left, or_right}
-use Rattle.reserve.specs.Exactly.{TableGives}
-use Rattle.reserve.proofs.Exactly.{table_gives}
+use Rattle.refusal.specs.declared.Refusal.TheVariants.{None, Empty, Many, Zero, Long, Order, Cycle, Tight, Size, Version, Dosing, Record, Report, Room, Spans, Stray}
+use Rattle.refusal.specs.Order.{accepted, or_else}
+use Rattle.refusal.proofs.Order.{passes}
+use Rattle.rule.proofs.Tests.{split, side}
+use Rattle.reserve.specs.Check.{table_refusal}
+use Rattle.reserve.specs.Exactly.{Counted, RowsGives, TableGives}
+use Rattle.reserve.proofs.Exactly.{exact, table_gives}
 use Rattle.tablefile.specs.Layout.{length_for, length_field, following, version_byte, count_byte, table_from}
 use Rattle.tablefile.specs.Answers.{head_refusal, file_refusal}
-use Rattle.tablefile.specs.Exactly.{Unmatched, RightLength, HeadGives, FileGives}
+use Rattle.tablefile.specs.Exactly.{Unmatched, Matched, Versioned, RightLength, Framed, FileGives}
+use Rattle.tablefile.proofs.HeadCases.{head_under, head_differs, head_version, head_empty, head_many, head_size, head_none}
 
+same : (m n : ℕ) → (m ≡ n) ⊎ (m ≢ n)
+same m n = ⊎_elim (λ e. inl (eqb-true m n e)) (λ e. inr (eqb-false m n e)) (split (eqb m n))
+
+-- ---- what is said of each refusal brings it about
 module _ (s : List ℕ) where
-  unmatched_exactly : ((ltb (length s) 4 || not (eqb (length_field s) (following s))) ≡ true) ↔ Unmatched s
-  unmatched_exactly = (
-    λ h. ⊎_elim (λ l. inl (ltb-true (length s) 4 l)) (λ d. inr (eqb-false (length_field s) (following s) (not-true _ d))) (or_cases _ _ h),
-    ⊎_elim (λ l. or_left _ _ (lt-ltb (length s) 4 l)) (λ d. or_right (ltb (length s) 4) (not (eqb (length_field s) (following s))) (rw (ne_eqb (length_field s) (following s) d))),
-  )
+  abbrev n : ℕ
+  n = count_byte s
 
-  head_gives : (f : Refusal) → (head_refusal s ≡ f) ↔ HeadGives s f
-  unfolding head_refusal HeadGives
-  head_gives =
-      let OtherLength : Refusal → Type 0 = Unless (RightLength s) Size in
-      let ManyRows : Refusal → Type 0 = Where (16 < count_byte s) Many in
-      let NoRows : Refusal → Type 0 = Where (count_byte s ≡ 0) Empty in
-      let OtherVersion : Refusal → Type 0 = Unless (version_byte s ≡ 1) Version in
-      chain (Where (Unmatched s) Size) (Then OtherVersion (Then NoRows (Then ManyRows OtherLength))) (where_gives _ unmatched_exactly Size)
-      (λ z. chain OtherVersion (Then NoRows (Then ManyRows OtherLength)) (unless_gives _ (same_exactly (version_byte s) 1) Version)
-      (λ y. chain NoRows (Then ManyRows OtherLength) (where_gives _ (same_exactly (count_byte s) 0) Empty)
-      (λ x. chain ManyRows OtherLength (where_gives _ (less_exactly 16 (count_byte s)) Many) (λ w. unless_gives _ (same_exactly (length_field s) (length_for (count_byte s))) Size))))
+  -- a refusal of the head is the file's
+  by_head : (f : Refusal) → accepted f ≡ false → f ≡ head_refusal s → file_refusal s ≡ f
+  unfolding file_refusal or_else
+  by_head f a e = rw (sym e, a)
 
-  -- 'Order for a file': each number exactly when document 01 says and no earlier one applies
-  pub file_gives : (f : Refusal) → (file_refusal s ≡ f) ↔ FileGives s f
-  unfolding file_refusal FileGives
-  file_gives = chain (HeadGives s) (TableGives (table_from s)) head_gives (λ e. table_gives (table_from s))
+  -- as the code asks it
+  field : Matched s → length_field s + 2 ≡ length s
+  field m = omega (arith, m.0, m.1)
+
+  given_unmatched : Unmatched s → file_refusal s ≡ Size
+  given_unmatched (inl l) = by_head Size refl (head_under s l)
+  given_unmatched (inr d) =
+      ⊎_elim (λ (l : length s < 4). by_head Size refl (head_under s l)) (λ (l : 4 ≤ length s). by_head Size refl (head_differs s l (length_field s) refl (λ e. d (omega arith)))) (side (length s) 4)
+
+  given_version : Matched s → version_byte s ≢ 1 → file_refusal s ≡ Version
+  given_version w d = by_head Version refl (head_version s w.0 (length_field s) refl (field w) (version_byte s) refl d)
+
+  module _ (v : Versioned s) where
+    given_empty : n ≡ 0 → file_refusal s ≡ Empty
+    given_empty e = by_head Empty refl (head_empty s v.0.0 (length_field s) refl (field v.0) (version_byte s) refl v.1 n refl e)
+
+    given_many : 16 < n → file_refusal s ≡ Many
+    given_many l = by_head Many refl (head_many s v.0.0 (length_field s) refl (field v.0) (version_byte s) refl v.1 n refl (λ z. omega arith) l)
+
+    module _ (c : Counted (table_from s)) where
+      given_size : (RightLength s → ⊥) → file_refusal s ≡ Size
+      unfolding table_from
+      given_size d = by_head Size refl (head_size s v.0.0 (length_field s) refl (field v.0) (version_byte s) refl v.1 n refl (ne_of_gt c.0) c.1 d)
+
+      -- after the head, what the table gives
+      given_rows : RightLength s → (f : Refusal) → TableGives (table_from s) f → file_refusal s ≡ f
+      unfolding table_from file_refusal
+      given_rows l f g =
+          let h = head_none s v.0.0 (length_field s) refl (field v.0) (version_byte s) refl v.1 n refl (ne_of_gt c.0) c.1 l in
+          sym (passes (head_refusal s) (table_refusal (table_from s)) (sym h)) ∙ (table_gives (table_from s) f).1 g
+
+  -- nothing gives the variants that have no clause here
+  given_if : (f : Refusal) → FileGives s f → file_refusal s ≡ f
+  unfolding FileGives TableGives RowsGives table_from
+  given_if None g = given_rows g.0.0 g.1.0.0 g.0.1 None g.1
+  given_if Empty g = given_empty g.0 g.1
+  given_if Many g = given_many g.0 g.1
+  given_if (Zero k) g = given_rows g.0.0 g.1.counted g.0.1 (Zero k) g.1
+  given_if (Long k) g = given_rows g.0.0 g.1.counted g.0.1 (Long k) g.1
+  given_if (Order k) g = given_rows g.0.0 g.1.counted g.0.1 (Order k) g.1
+  given_if Cycle g = given_rows g.0.0 g.1.0 g.0.1 Cycle g.1
+  given_if (Tight k) g = given_rows g.0.0 g.1.0.0 g.0.1 (Tight k) g.1
+  given_if Size (inl c) = given_unmatched c
+  given_if Size (inr g) = given_size g.0 g.1 g.2
+  given_if Version g = given_version g.0 g.1
+  given_if Room g = elim g [ ]
+  given_if Record g = elim g [ ]
+  given_if Report g = elim g [ ]
+  given_if Stray g = elim g [ ]
+  given_if Dosing g = elim g [ ]
+  given_if Spans g = elim g [ ]
+
+  -- ---- of every file one of these things can be said
+  abbrev SomeGives : Type 0
+  SomeGives = (f : Refusal) × FileGives s f
+
+  framed_gives : Framed s → (f : Refusal) → TableGives (table_from s) f → FileGives s f
+  unfolding FileGives TableGives
+  framed_gives r None g = (r, g)
+  framed_gives r Empty g = (r.0, g)
+  framed_gives r Many g = (r.0, g)
+  framed_gives r (Zero k) g = (r, g)
+  framed_gives r (Long k) g = (r, g)
+  framed_gives r (Order k) g = (r, g)
+  framed_gives r Cycle g = (r, g)
+  framed_gives r (Tight k) g = (r, g)
+  framed_gives r Room g = elim g [ ]
+  framed_gives r Record g = elim g [ ]
+  framed_gives r Report g = elim g [ ]
+  framed_gives r Stray g = elim g [ ]
+  framed_gives r Size g = elim g [ ]
+  framed_gives r Version g = elim g [ ]
+  framed_gives r Dosing g = elim g [ ]
+  framed_gives r Spans g = elim g [ ]
+
+  versioned_gives : Versioned s → SomeGives
+  unfolding FileGives TableGives RowsGives table_from
+  versioned_gives v =
+      ⊎_elim (λ (e : n ≡ 0). (Empty, (v, e)))
+      (λ (p : 0 < n).
+      ⊎_elim (λ (l : 16 < n). (Many, (v, l)))
+      (λ (l : n ≤ 16).
+      ⊎_elim (λ (e : RightLength s).
+      let f = table_refusal (table_from s) in
+      (f, framed_gives (v, e) f ((table_gives (table_from s) f).0 refl)))
+      (λ d. (Size, inr (v, (p, l), d))) (same (length_field s) (length_for n))) (side 16 n))
+      (eq-zero-or-pos n)
+
+  some_gives : SomeGives
+  unfolding FileGives
+  some_gives =
+      ⊎_elim (λ (l : length s < 4). (Size, inl (inl l)))
+      (λ (l : 4 ≤ length s).
+      ⊎_elim (λ (e : length_field s ≡ following s).
+      ⊎_elim (λ (v : version_byte s ≡ 1). versioned_gives ((l, e), v)) (λ d. (Version, ((l, e), d))) (same (version_byte s) 1))
+      (λ d. (Size, inl (inr d))) (same (length_field s) (following s)))
+      (side (length s) 4)
+
+-- 'Order for a file': each number exactly when document 01 says and no earlier one applies
+pub file_gives : (s : List ℕ) (f : Refusal) → (file_refusal s ≡ f) ↔ FileGives s f
+file_gives s = exact (FileGives s) (given_if s) (some_gives s)

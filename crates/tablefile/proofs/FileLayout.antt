@@ -10,8 +10,7 @@ use Rattle.table.specs.declared.Row.{Row}
 use Rattle.table.specs.declared.Table.{Table}
 use Rattle.table.specs.Rows.{used}
 use Rattle.table.proofs.Check.{used_count}
-use Rattle.texts.specs.BigEndian.{byte_at, word_at, word_bytes}
-use Rattle.tablefile.specs.Layout.{row_bytes, rows_bytes, file_bytes, row_from, rows_from}
+use Rattle.tablefile.specs.Layout.{word_bytes, row_bytes, rows_bytes, file_bytes, byte_at, word_at, row_from, rows_from}
 
 -- ---- lengths
 pub rows_count : (s : List ℕ) (at n : ℕ) → length (rows_from s at n) ≡ n

@@ -1,10 +1,10 @@
 -- The reader: what each function of it answers, from the facts on the code's way to it.
 -- Assumes nothing.
-use mathlib.Core.Path.{◌≡◌, sym, ◌∙◌, ap}
+use mathlib.Core.Path.{◌≡◌, sym, ◌∙◌, ap, ap₂}
 use mathlib.Core.List.{List, [], ◌∷◌, ◌++◌}
 use Prim.Native.Nat.{ℕ, suc, ◌+◌, ◌-◌, ◌*◌, ◌≤◌, ◌<◌}
 use native.Mathlib.Omega.{arith}
-use lib.ListN.{set, replicate}
+use lib.ListN.{length, set, replicate, get_or-eq_default}
 use lib.Seq.{set_at, append_snoc}
 use Rattle.refusal.specs.declared.Refusal.{Refusal}
 use Rattle.refusal.specs.declared.Refusal.TheVariants.{None}
@@ -14,16 +14,22 @@ use Rattle.table.specs.declared.Row.{Row}
 use Rattle.table.specs.declared.Table.{Table}
 use Rattle.table.specs.declared.Checked.{Checked}
 use Rattle.table.specs.Rows.{blank}
-use Rattle.texts.specs.BigEndian.{word_at}
 use Rattle.reserve.specs.Check.{table_refusal, table_check}
-use Rattle.reserve.proofs.Reading.Verdict.{checked_refusal}
+use Rattle.reserve.proofs.Verdict.{checked_refusal}
 use Rattle.tablefile.specs.declared.Reading.{Reading}
-use Rattle.tablefile.specs.Layout.{count_byte, row_from, rows_from, padded, table_from}
+use Rattle.tablefile.specs.Layout.{byte_at, word_at, count_byte, row_from, rows_from, padded, table_from}
 use Rattle.tablefile.specs.Answers.{head_refusal, file_refusal, zero_table, hands_back, read_as}
 use Rattle.tablefile.proofs.FileLayout.{rows_more, rows_count}
 use Rattle.tablefile.proofs.HeadCases.{headed}
 
--- ---- a row
+-- ---- bytes, words and rows
+pub byte_past : (s : List ℕ) (at : ℕ) → length s ≤ at → 0 ≡ byte_at s at
+byte_past s at h = sym (get_or-eq_default s 0 h)
+
+pub word_by : (s : List ℕ) (at high low : ℕ) → high ≡ byte_at s at → low ≡ byte_at s (at + 1) → high * 256 + low ≡ word_at s at
+unfolding word_at
+word_by s at high low a b = ap₂ (λ (x y : ℕ). x * 256 + y) a b
+
 pub row_by : (s : List ℕ) (at p a b : ℕ) → p ≡ word_at s at → a ≡ word_at s (at + 2) → b ≡ word_at s (at + 4)
     → ◌≡◌ {A = Row} (record { period = p; primary = a; alternate = b }) (row_from s at)
 unfolding row_from

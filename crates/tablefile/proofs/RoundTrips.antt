@@ -14,11 +14,10 @@ use Rattle.table.specs.declared.Row.{Row}
 use Rattle.table.specs.declared.Table.{Table}
 use Rattle.table.specs.Rows.{used, blank}
 use Rattle.table.proofs.Check.{used_count}
-use Rattle.texts.specs.BigEndian.{word_at, word_bytes}
 use Rattle.reserve.specs.Check.{table_refusal}
-use Rattle.reserve.proofs.Reading.Verdict.{table_accepted, refusal_past}
+use Rattle.reserve.proofs.Verdict.{table_accepted, refusal_past}
 use Rattle.tablefile.specs.declared.Reading.{Reading}
-use Rattle.tablefile.specs.Layout.{length_for, row_bytes, rows_bytes, file_bytes, count_byte, row_from, rows_from, padded, table_from}
+use Rattle.tablefile.specs.Layout.{length_for, word_bytes, row_bytes, rows_bytes, file_bytes, count_byte, word_at, row_from, rows_from, padded, table_from}
 use Rattle.tablefile.specs.Answers.{head_refusal, file_refusal, hands_back, read_as}
 use Rattle.tablefile.specs.RoundTrips.{Places, Bytes, zeroed}
 use Rattle.tablefile.proofs.FileLayout.{rows_count, file_size, rows_shift}

@@ -2,7 +2,7 @@
 -- Assumes nothing.
 use mathlib.Core.Path.{◌≡◌, refl, sym, ◌∙◌, ap}
 use mathlib.Core.List.{List, [], ◌∷◌, ◌++◌}
-use Prim.Native.Nat.{ℕ, ◌+◌, ◌*◌, ◌≤◌, ◌<◌}
+use Prim.Native.Nat.{ℕ, ◌+◌, ◌*◌, ◌/◌, ◌%◌, ◌≤◌, ◌<◌}
 use native.Mathlib.Numerals.{add-one}
 use native.Mathlib.Omega.{arith}
 use lib.ListN.{length, take, get_or, set}
@@ -13,14 +13,17 @@ use Rattle.table.specs.declared.Row.{Row}
 use Rattle.table.specs.declared.Table.{Table}
 use Rattle.table.specs.declared.Checked.{Checked}
 use Rattle.table.specs.Rows.{used, blank}
-use Rattle.texts.specs.BigEndian.{word_bytes}
 use Rattle.reserve.specs.Check.{table_check}
-use Rattle.reserve.proofs.Reading.Ready.{few}
-use Rattle.reserve.proofs.Reading.Verdict.{table_ready}
-use Rattle.tablefile.specs.Layout.{length_for, row_bytes, rows_bytes, file_bytes}
+use Rattle.reserve.proofs.Ready.{few}
+use Rattle.reserve.proofs.Verdict.{table_ready}
+use Rattle.tablefile.specs.Layout.{length_for, word_bytes, row_bytes, rows_bytes, file_bytes}
 use Rattle.tablefile.proofs.FileLayout.{rows_size, file_size, bytes_more}
 
--- ---- a row
+-- ---- a word and a row
+pub word_put : (l : List ℕ) (at w : ℕ) → set (set l at (w / 256)) (at + 1) (w % 256) ≡ sets l at (word_bytes w)
+unfolding word_bytes
+word_put l at w = rw add-one
+
 pub row_put : (l a b o : List ℕ) (at : ℕ) (r : Row) → a ≡ sets l at (word_bytes r.period) → b ≡ sets a (at + 2) (word_bytes r.primary)
     → o ≡ sets b (at + 4) (word_bytes r.alternate)
     → o ≡ sets l at (row_bytes r)

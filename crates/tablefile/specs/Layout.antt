@@ -1,16 +1,19 @@
 -- The table file, byte by byte: what stands in it, and what is read from it.
 -- Assumes nothing: these are definitions.
-use Rattle.std.specs.Prelude.{ℕ, zero, suc, ◌+◌, ◌-◌, ◌*◌, List, [], ◌∷◌, ◌++◌, length, replicate}
+use Rattle.std.specs.Prelude.{ℕ, zero, suc, ◌+◌, ◌-◌, ◌*◌, ◌/◌, ◌%◌, List, [], ◌∷◌, ◌++◌, length, get_or, replicate}
 use Rattle.table.specs.declared.Row.{Row}
 use Rattle.table.specs.declared.Table.{Table}
 use Rattle.table.specs.Rows.{used, blank}
-use Rattle.texts.specs.BigEndian.{byte_at, word_at, word_bytes}
 
 -- 'The length must be 2+6n', of a file of n rows
 abbrev pub length_for : ℕ → ℕ
 length_for n = 2 + 6 * n
 
--- ---- what stands in a file, 'Big-endian'
+-- ---- what stands in a file
+-- 'Big-endian': the high byte first
+unfoldable pub word_bytes : ℕ → List ℕ
+word_bytes w = w / 256 ∷ w % 256 ∷ []
+
 -- 'period, p, a, two bytes each'
 unfoldable pub row_bytes : Row → List ℕ
 row_bytes r = word_bytes r.period ++ word_bytes r.primary ++ word_bytes r.alternate
@@ -24,6 +27,14 @@ unfoldable pub file_bytes : Table → List ℕ
 file_bytes t = word_bytes (length_for t.n) ++ (1 ∷ t.n ∷ rows_bytes (used t))
 
 -- ---- what is read from bytes
+-- the byte at a place, 0 past the end
+abbrev pub byte_at : List ℕ → ℕ → ℕ
+byte_at s at = get_or s at 0
+
+-- the word at a place, 'Big-endian'
+unfoldable pub word_at : List ℕ → ℕ → ℕ
+word_at s at = byte_at s at * 256 + byte_at s (at + 1)
+
 -- 'Two bytes: the number of bytes that follow them.'
 abbrev pub length_field : List ℕ → ℕ
 length_field s = word_at s 0

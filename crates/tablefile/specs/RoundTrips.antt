@@ -3,8 +3,7 @@
 use Rattle.std.specs.Prelude.{◌≡◌, List, ℕ, ◌<◌, length}
 use Rattle.table.specs.declared.Table.{Table}
 use Rattle.table.specs.Rows.{used}
-use Rattle.texts.specs.BigEndian.{byte_at}
-use Rattle.tablefile.specs.Layout.{padded}
+use Rattle.tablefile.specs.Layout.{byte_at, padded}
 
 -- what the type [Row; 16] says of each table
 abbrev pub Places : Table → Type 0

@@ -3,13 +3,14 @@
 
 ghost use Rattle.std.specs.Prelude.{◌≡◌, ◌+◌, ◌*◌, ◌≤◌, ◌<◌, length};
 ghost use Rattle.std.proofs.lemmas.List.Edits.{sets};
-ghost use Rattle.refusal.specs.HandOut.{handed, handed_over};
 ghost use Rattle.table.specs.Rows.{used};
 ghost use Rattle.reserve.specs.Check.{table_refusal};
-ghost use Rattle.tablefile.specs.Layout.{row_bytes, rows_bytes, file_bytes, row_from, rows_from, padded};
+ghost use Rattle.reserve.specs.HandOut.{handed, handed_over};
+ghost use Rattle.tablefile.specs.Layout.{word_bytes, row_bytes, rows_bytes, file_bytes, byte_at, word_at, row_from, rows_from, padded};
 ghost use Rattle.tablefile.specs.Answers.{head_refusal, zero_table, hands_back, read_as};
 
-use refusal::{Handed, Refusal};
+use refusal::Refusal;
+use reserve::Handed;
 use table::{Row, Table};
 
 // The answer of a reading: the table, or a refusal beside a table of zeros with n 0.
@@ -32,14 +33,31 @@ fn zeros() -> Table
     Table { n: 0, rows }
 }
 
-// The row at a place: three words. No place that is asked for is past the hundredth, so none overflows.
+// The byte at a place, 0 past the end.
+fn byte(s: &[u8], at: usize) -> u8
+    ensures { result ≡ byte_at s.now at }
+{
+    if at < s.len() { s[at] } else { 0 }
+}
+
+// The word at a place: two bytes, the high one first. No place that is asked for is past the hundredth, so none overflows.
+fn word(s: &[u8], at: usize) -> u16
+    requires { at < 100 }
+    ensures { result ≡ word_at s.now at }
+{
+    let high = byte(s, at);
+    let low = byte(s, at + 1);
+    high as u16 * 256 + low as u16
+}
+
+// The row at a place: three words.
 fn row_from(s: &[u8], at: usize) -> Row
     requires { at < 96 }
     ensures { result ≡ row_from s.now at }
 {
-    let period = texts::word(s, at);
-    let primary = texts::word(s, at + 2);
-    let alternate = texts::word(s, at + 4);
+    let period = word(s, at);
+    let primary = word(s, at + 2);
+    let alternate = word(s, at + 4);
     Row {
         period,
         primary,
@@ -72,15 +90,15 @@ fn head(s: &[u8]) -> Refusal
     if have < 4 {
         return Refusal::Size;
     }
-    let follow = texts::word(s, 0) as usize;
+    let follow = word(s, 0) as usize;
     if follow + 2 != have {
         return Refusal::Size;
     }
-    let version = texts::byte(s, 2);
+    let version = byte(s, 2);
     if version != 1 {
         return Refusal::Version;
     }
-    let n = texts::byte(s, 3);
+    let n = byte(s, 3);
     if n == 0 {
         return Refusal::Empty;
     }
@@ -119,7 +137,7 @@ pub fn read(s: &[u8]) -> Reading
     let f = head(s);
     match f {
         Refusal::None => {
-            let n = texts::byte(s, 3);
+            let n = byte(s, 3);
             let rows = rows_from(s, n);
             judged(Table { n, rows })
         }
@@ -130,14 +148,23 @@ pub fn read(s: &[u8]) -> Reading
     }
 }
 
+// Writes a word at a place: two bytes, the high one first.
+fn put_word(out: &mut [u8], at: usize, w: u16)
+    requires { at + 2 ≤ length out.old }
+    ensures { out.new ≡ sets out.old at (word_bytes w) }
+{
+    out[at] = (w / 256) as u8;
+    out[at + 1] = (w % 256) as u8;
+}
+
 // Writes a row at a place: three words.
 fn put_row(out: &mut [u8], at: usize, r: Row)
     requires { at + 6 ≤ length out.old }
     ensures { out.new ≡ sets out.old at (row_bytes r) }
 {
-    texts::put_word(out, at, r.period);
-    texts::put_word(out, at + 2, r.primary);
-    texts::put_word(out, at + 4, r.alternate);
+    put_word(out, at, r.period);
+    put_word(out, at + 2, r.primary);
+    put_word(out, at + 4, r.alternate);
 }
 
 // Writes the rows of a table after the file's first four bytes.
@@ -157,8 +184,8 @@ fn put_rows(out: &mut [u8], t: Table)
 
 // Writes the file of a table. Later bytes stay, and a refusal writes nothing.
 pub fn write(t: Table, out: &mut [u8]) -> Handed
-    ensures answer { result ≡ handed (table_refusal t) (file_bytes t) out.old }
-    ensures bytes { out.new ≡ handed_over (table_refusal t) (file_bytes t) out.old }
+    ensures answer { result ≡ handed t (file_bytes t) out.old }
+    ensures bytes { out.new ≡ handed_over t (file_bytes t) out.old }
 {
     let checked = reserve::check(t);
     let f = checked.refusal;
@@ -170,21 +197,21 @@ pub fn write(t: Table, out: &mut [u8]) -> Handed
             if out.len() < size {
                 return Handed {
                     refusal: Refusal::Room,
-                    places: 0,
+                    used: 0,
                 };
             }
-            texts::put_word(out, 0, follow);
+            put_word(out, 0, follow);
             out[2] = 1;
             out[3] = n;
             put_rows(out, t);
             Handed {
                 refusal: Refusal::None,
-                places: size,
+                used: size,
             }
         }
         _ => Handed {
             refusal: f,
-            places: 0,
+            used: 0,
         },
     }
 }

@@ -1,1 +1,1 @@
-pub mod Private
+pub mod Shares

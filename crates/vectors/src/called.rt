@@ -1,15 +1,15 @@
 // Each kind of case: the entry called on its arguments, and the line printed of its answer.
 ghost use Rattle.std.specs.Prelude.{◌≤◌, length};
-ghost use Rattle.vectors.specs.Private.{Numbers};
+ghost use Rattle.vectors.specs.Shares.{Numbers};
 
 use crate::{form, print};
 use bagreport::BagReport;
-use refusal::Handed;
+use reserve::Handed;
 use slots::{Ran, Record};
 use table::Table;
 
 fn call_gcd(s: &[u8]) {
-    let g = table::gcd(texts::word(s, 4), texts::word(s, 6));
+    let g = table::gcd(form::word(s, 4), form::word(s, 6));
     print::text(b"gcd");
     print::number(g as u64);
 }
@@ -38,11 +38,11 @@ fn lend_list(t: Table, lent: &mut [u8], room: usize) -> Handed
 fn call_list(s: &[u8]) {
     let room = form::room(s, 2);
     let mut lent = [0u8; 16388];
-    form::fill_bytes(&mut lent, texts::byte(s, 1));
+    form::fill_bytes(&mut lent, form::byte(s, 1));
     let got = lend_list(form::table_of(s), &mut lent, room);
     let f = got.refusal;
     print::head(b"list", f);
-    print::number(got.places as u64);
+    print::number(got.used as u64);
     print::bytes(&lent, room + 4);
 }
 
@@ -55,11 +55,11 @@ fn lend_firsts(t: Table, lent: &mut [u16], room: usize) -> Handed
 fn call_firsts(s: &[u8]) {
     let room = form::room(s, 2);
     let mut lent = [0u16; 16388];
-    form::fill_places(&mut lent, texts::byte(s, 1));
+    form::fill_places(&mut lent, form::byte(s, 1));
     let got = lend_firsts(form::table_of(s), &mut lent, room);
     let f = got.refusal;
     print::head(b"firsts", f);
-    print::number(got.places as u64);
+    print::number(got.used as u64);
     print::places(&lent, room + 4);
 }
 
@@ -92,11 +92,11 @@ fn lend_file(t: Table, lent: &mut [u8], room: usize) -> Handed
 fn call_write(s: &[u8]) {
     let room = form::room(s, 2);
     let mut lent = [0u8; 16388];
-    form::fill_bytes(&mut lent, texts::byte(s, 1));
+    form::fill_bytes(&mut lent, form::byte(s, 1));
     let got = lend_file(form::table_of(s), &mut lent, room);
     let f = got.refusal;
     print::head(b"write", f);
-    print::number(got.places as u64);
+    print::number(got.used as u64);
     print::bytes(&lent, room + 4);
 }
 
@@ -127,7 +127,7 @@ fn call_waiting(s: &[u8]) {
 
 fn call_step(s: &[u8]) {
     let q = form::record_of(s);
-    let got = q.step(form::table_of(s), texts::byte(s, 183));
+    let got = q.step(form::table_of(s), form::byte(s, 183));
     let f = got.refusal;
     print::head(b"step", f);
     print::number(got.ran as u64);
@@ -154,7 +154,7 @@ fn call_run(s: &[u8]) {
     let at = form::start(s, 185);
     let room = form::room(s, 2);
     let kept = form::room(s, 183);
-    let fill = texts::byte(s, 1);
+    let fill = form::byte(s, 1);
     let mut log = [0u8; 16388];
     let mut buffer = [0u8; 16388];
     form::fill_bytes(&mut log, fill);
@@ -215,11 +215,11 @@ fn call_bags(s: &[u8]) {
     let at = form::start(s, 103 + 8 * n);
     let room = form::room(s, 2);
     let mut lent = [0u8; 16388];
-    form::fill_bytes(&mut lent, texts::byte(s, 1));
+    form::fill_bytes(&mut lent, form::byte(s, 1));
     let got = lend_marks(
         form::table_of(s),
         &s[at..],
-        texts::byte(s, 101),
+        form::byte(s, 101),
         &spans,
         n,
         &mut lent,
@@ -239,7 +239,7 @@ fn call_none(kind: u8) {
 
 // The line of a case.
 pub(crate) fn answer(s: &[u8]) {
-    let kind = texts::byte(s, 0);
+    let kind = form::byte(s, 0);
     match kind {
         1 => call_gcd(s),
         2 => call_rows(s),

@@ -1,31 +1,57 @@
 // What stands in the body of a case, by its place. Bytes that a body doesn't have count as 0.
 ghost use Rattle.std.specs.Prelude.{◌≤◌, ◌<◌, length};
 
-use jobs::{Job, State};
-use slots::Record;
+use slots::{Job, Record, State};
 use table::{Row, Table};
+
+// The byte at a place.
+pub(crate) fn byte(s: &[u8], at: usize) -> u8 {
+    if at < s.len() { s[at] } else { 0 }
+}
+
+// Two bytes, the high one first. No place that is asked for is past the thousandth.
+pub(crate) fn word(s: &[u8], at: usize) -> u16
+    requires { at < 1000 }
+{
+    let high = byte(s, at);
+    let low = byte(s, at + 1);
+    high as u16 * 256 + low as u16
+}
+
+// Eight bytes, the high one first.
+fn long(s: &[u8], at: usize) -> u64
+    requires { at < 900 }
+{
+    let a = word(s, at) as u64;
+    let b = word(s, at + 2) as u64;
+    let c = word(s, at + 4) as u64;
+    let d = word(s, at + 6) as u64;
+    ((a * 65536 + b) * 65536 + c) * 65536 + d
+}
 
 // How many places are lent, by the number at a place.
 pub(crate) fn room(s: &[u8], at: usize) -> usize
+    requires { at < 1000 }
     ensures { result ≤ 16384 }
 {
-    texts::least(texts::word(s, at) as usize, 16384)
+    let n = word(s, at) as usize;
+    if 16384 < n { 16384 } else { n }
 }
 
 // Where a list starts that stands from a place on: there, or at the body's end.
 pub(crate) fn start(s: &[u8], at: usize) -> usize
     ensures { result ≤ length s.now }
 {
-    texts::least(at, s.len())
+    if at < s.len() { at } else { s.len() }
 }
 
-// A row: period, p and a. No place that is asked for is past the thousandth.
+// A row: period, p and a.
 fn row_at(s: &[u8], at: usize) -> Row
     requires { at < 900 }
 {
-    let period = texts::word(s, at);
-    let primary = texts::word(s, at + 2);
-    let alternate = texts::word(s, at + 4);
+    let period = word(s, at);
+    let primary = word(s, at + 2);
+    let alternate = word(s, at + 4);
     Row {
         period,
         primary,
@@ -35,7 +61,7 @@ fn row_at(s: &[u8], at: usize) -> Row
 
 // The table, which stands at place 4.
 pub(crate) fn table_of(s: &[u8]) -> Table {
-    let n = texts::byte(s, 4);
+    let n = byte(s, 4);
     let mut rows = [Row {
         period: 0,
         primary: 0,
@@ -54,9 +80,9 @@ pub(crate) fn table_of(s: &[u8]) -> Table {
 fn job_at(s: &[u8], at: usize) -> Job
     requires { at < 900 }
 {
-    let told = texts::byte(s, at);
-    let run = texts::word(s, at + 1);
-    let left = texts::word(s, at + 3);
+    let told = byte(s, at);
+    let run = word(s, at + 1);
+    let left = word(s, at + 3);
     match told {
         0 => Job {
             state: State::Waiting,
@@ -78,7 +104,7 @@ fn job_at(s: &[u8], at: usize) -> Job
 
 // The record, which stands at place 101.
 pub(crate) fn record_of(s: &[u8]) -> Record {
-    let clock = texts::word(s, 101);
+    let clock = word(s, 101);
     let mut jobs = [Job {
         state: State::Waiting,
         run: 0,
@@ -108,7 +134,8 @@ pub(crate) fn lefts_of(q: Record) -> [u16; 16] {
 pub(crate) fn numbers(s: &[u8]) -> usize
     ensures { result ≤ 64 }
 {
-    texts::least(texts::byte(s, 102) as usize, 64)
+    let n = byte(s, 102) as usize;
+    if 64 < n { 64 } else { n }
 }
 
 // The first n numbers of the list of spans, which stands at place 103.
@@ -118,7 +145,7 @@ pub(crate) fn spans_of(s: &[u8], n: usize) -> [u64; 64]
     let mut spans = [0u64; 64];
     let mut i: usize = 0;
     while i < n {
-        spans[i] = texts::long(s, 103 + 8 * i);
+        spans[i] = long(s, 103 + 8 * i);
         i += 1;
     }
     spans

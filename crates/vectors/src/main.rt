@@ -53,7 +53,7 @@ fn one_case() -> bool {
         print::text(b"cut off\n");
         return false;
     }
-    let size = texts::word(&head, 0) as usize;
+    let size = form::word(&head, 0) as usize;
     one_body(size)
 }
 

@@ -1,12 +1,11 @@
 // The text of the answers.
 ghost use Rattle.std.specs.Prelude.{◌≤◌, length};
-ghost use Rattle.vectors.specs.Private.{Number, Numbers};
+ghost use Rattle.vectors.specs.Shares.{Number, Numbers};
 
 use crate::STDOUT_FILENO;
-use jobs::{Job, State};
 use refusal::Refusal;
 use share::Share;
-use slots::Record;
+use slots::{Job, Record, State};
 use table::Table;
 
 pub(crate) fn text(s: &[u8]) {

@@ -1,9 +1,9 @@
 -- `bagreport::admitted` meets its contract.
 use borrow.Author.Rules.{rules}
 use Rattle.table.proofs.Lists.{long}
-use Rattle.bagreport.proofs.Passes.Passing.{bagged_none, ordered_none}
-use Rattle.bagreport.proofs.Passes.SecondPass.{both_none, first_row_lem}
-use Rattle.bagreport.proofs.Passes.ReportCases.{room_told, room_kept, run_told, run_kept}
+use Rattle.bagreport.proofs.Passing.{bagged_none, ordered_none}
+use Rattle.bagreport.proofs.SecondPass.{both_none, first_row_lem}
+use Rattle.bagreport.proofs.ReportCases.{room_told, room_kept, run_told, run_kept}
 use Rattle.bagreport.proofs.admitted.Goals as goal
 
 pub returns-then-marks-spans-clause-answer : goal.returns-then-marks-spans-clause-answer

@@ -1,7 +1,7 @@
 -- `bagreport::judged` meets its contract.
 use borrow.Author.Rules.{rules}
-use Rattle.bagreport.proofs.Passes.SecondPass.{both_none}
-use Rattle.bagreport.proofs.Passes.ReportCases.{desk_told, desk_kept, none_told, none_written}
+use Rattle.bagreport.proofs.SecondPass.{both_none}
+use Rattle.bagreport.proofs.ReportCases.{desk_told, desk_kept, none_told, none_written}
 use Rattle.bagreport.proofs.judged.Goals as goal
 
 pub written-requires : goal.written-requires

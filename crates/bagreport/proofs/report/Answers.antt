@@ -1,6 +1,5 @@
 -- `bagreport::report` meets its contract.
-use borrow.Author.Rules.{rules}
-use Rattle.bagreport.proofs.Passes.ReportCases.{fresh_none, fresh_start, table_told, table_kept}
+use Rattle.bagreport.proofs.ReportCases.{fresh_none, fresh_start, table_told, table_kept}
 use Rattle.bagreport.proofs.report.Goals as goal
 
 pub admitted-requires : goal.admitted-requires

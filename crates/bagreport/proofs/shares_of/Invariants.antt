@@ -1,8 +1,6 @@
 -- `bagreport::shares_of` meets its contract.
 use Prim.Native.Nat.{◌-◌}
-use native.Mathlib.Omega.{arith}
-use borrow.Author.Rules.{rules}
-use Rattle.bagreport.proofs.Passes.SharesFilled.{Filled, place_parts, place_few, filled_start, filled_step, filled_end}
+use Rattle.bagreport.proofs.SharesFilled.{Filled}
 use Rattle.bagreport.proofs.shares_of.Given as goal
 
 abbrev pub invariant-loop-i : goal.invariant-loop-i

@@ -1,7 +1,7 @@
 -- `bagreport::written` meets its contract.
 use borrow.Author.Rules.{rules}
 use Rattle.table.proofs.Lists.{long}
-use Rattle.bagreport.proofs.Passes.SecondPass.{desk_row, desk_few, desk_ordered, desk_place, cleared_bags, none_shares, written_bytes}
+use Rattle.bagreport.proofs.SecondPass.{desk_row, desk_few, desk_ordered, desk_place, cleared_bags, none_shares, written_bytes}
 use Rattle.bagreport.proofs.written.Goals as goal
 
 pub overflow_sub-place : goal.overflow_sub-place

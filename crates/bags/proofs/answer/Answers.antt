@@ -1,8 +1,7 @@
 -- `bags::answer` meets its contract.
 use native.Mathlib.Omega.{arith}
-use borrow.Author.Rules.{rules}
-use Rattle.tablefile.proofs.RoundTrips.{was_read}
 use Rattle.bags.proofs.Parts.{part_is, part_few}
+use Rattle.tablefile.proofs.RoundTrips.{was_read}
 use Rattle.bags.proofs.answer.Goals as goal
 
 pub slice_bounds-report_on-end-in-None : goal.slice_bounds-report_on-end-in-None

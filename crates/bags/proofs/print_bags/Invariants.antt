@@ -1,7 +1,6 @@
 -- `bags::print_bags` meets its contract.
 use Prim.Native.Nat.{◌-◌}
 use lib.ListN.{length}
-use borrow.Author.Rules.{rules}
 use Rattle.bags.proofs.print_bags.Given as goal
 
 abbrev pub invariant-loop-i : goal.invariant-loop-i

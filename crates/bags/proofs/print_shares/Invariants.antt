@@ -1,6 +1,5 @@
 -- `bags::print_shares` meets its contract.
 use Prim.Native.Nat.{◌-◌, ◌≤◌}
-use borrow.Author.Rules.{rules}
 use Rattle.bags.proofs.print_shares.Given as goal
 
 abbrev pub invariant-loop-i : goal.invariant-loop-i

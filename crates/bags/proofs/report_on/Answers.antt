@@ -1,6 +1,5 @@
 -- `bags::report_on` meets its contract.
 use native.Mathlib.Omega.{arith}
-use borrow.Author.Rules.{rules}
 use Rattle.bags.proofs.Parts.{part_is, part_half, rows_few}
 use Rattle.bags.proofs.report_on.Goals as goal
 

@@ -1,5 +1,4 @@
 -- `bench::bench_bags` meets its contract.
-use borrow.Author.Rules.{rules}
 use Rattle.bench.proofs.EvenBags.{even_figure, even_marks_lem}
 use Rattle.bench.proofs.bench_bags.Goals as goal
 

@@ -1,5 +1,4 @@
 -- `bench::bench_run` meets its contract.
-use borrow.Author.Rules.{rules}
 use Rattle.bench.proofs.Figures.{ran_figure}
 use Rattle.bench.proofs.bench_run.Goals as goal
 

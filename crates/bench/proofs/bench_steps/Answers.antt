@@ -1,9 +1,6 @@
 -- `bench::bench_steps` meets its contract.
-use Prim.Native.Nat.{◌-◌}
-use borrow.Author.Rules.{rules}
-use lib.ListN.{length}
 use Rattle.table.proofs.Lists.{long}
-use Rattle.bench.proofs.OneByOne.{Going, going_start, going_size, going_step, stops_slots, stops_log, full_slots, full_log, ends_slots, ends_log}
+use Rattle.bench.proofs.OneByOne.{going_start, going_size, going_step, stops_slots, stops_log, full_slots, full_log, ends_slots, ends_log}
 use Rattle.bench.proofs.bench_steps.Goals as goal
 
 pub loop-i-init : goal.loop-i-init

@@ -1,5 +1,4 @@
 -- `bench::figure` meets its contract.
-use borrow.Author.Rules.{rules}
 use Rattle.bench.proofs.Figures.{figure_job, figure_clock, figure_slots}
 use Rattle.bench.proofs.figure.Goals as goal
 

@@ -1,5 +1,4 @@
 -- `bench::job_number` meets its contract.
-use borrow.Author.Rules.{rules}
 use Rattle.bench.proofs.Figures.{number_fits, number_of}
 use Rattle.bench.proofs.job_number.Goals as goal
 

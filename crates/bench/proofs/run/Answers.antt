@@ -1,5 +1,4 @@
 -- `bench::run` meets its contract.
-use borrow.Author.Rules.{rules}
 use Rattle.bench.proofs.AtOnce.{ran_list, ran_log, ran_buffer}
 use Rattle.bench.proofs.run.Goals as goal
 

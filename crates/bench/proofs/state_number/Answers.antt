@@ -1,5 +1,4 @@
 -- `bench::state_number` meets its contract.
-use borrow.Author.Rules.{rules}
 use Rattle.bench.proofs.Figures.{number_waiting, number_failed, number_done}
 use Rattle.bench.proofs.state_number.Goals as goal
 

@@ -1,5 +1,4 @@
 -- `example::fixed_dose_runs` meets its contract.
-use borrow.Author.Rules.{rules}
 use Rattle.example.proofs.Told.{told}
 use Rattle.example.proofs.fixed_dose_runs.Goals as goal
 

@@ -1,12 +1,18 @@
 -- `plan::line_at` meets its contract.
-use Prim.Native.Nat.{◌-◌}
-use borrow.Author.Rules.{rules}
 use Rattle.table.proofs.Lists.{long}
-use Rattle.plan.proofs.PrintedLines.{Looking, job_fits_word, place_fits_word, look_start, look_on, look_room, look_found, look_end}
+use Rattle.reserve.proofs.Ready.{period_some}
+use Rattle.plan.proofs.PrintedLines.{jobs_fit_word, job_fits_word, look_start, look_on, look_room, look_found, look_end}
+use borrow.Author.Rules.{rules}
 use Rattle.plan.proofs.line_at.Goals as goal
 
 pub loop-i-init : goal.loop-i-init
-loop-i-init c = search (look_start, long)
+loop-i-init c = look_start c.requires.0 (search (long)) _
+
+pub nonzero_div-jobs : goal.nonzero_div-jobs
+nonzero_div-jobs c = search (period_some, long)
+
+pub overflow_cast-jobs : goal.overflow_cast-jobs
+overflow_cast-jobs c = search (jobs_fit_word, long, rules)
 
 pub overflow_add-result-then-left-jobs : goal.overflow_add-result-then-left-jobs
 overflow_add-result-then-left-jobs c = search (job_fits_word, long, rules)

@@ -1,8 +1,6 @@
 -- `plan::line_at` meets its contract.
 use Prim.Native.Nat.{◌-◌}
-use borrow.Author.Rules.{rules}
-use Rattle.table.proofs.Lists.{long}
-use Rattle.plan.proofs.PrintedLines.{Looking, job_fits_word, place_fits_word, look_start, look_on, look_room, look_found, look_end}
+use Rattle.plan.proofs.PrintedLines.{Looking}
 use Rattle.plan.proofs.line_at.Given as goal
 
 abbrev pub invariant-loop-i : goal.invariant-loop-i

@@ -1,5 +1,4 @@
 -- `plan::main` meets its contract.
-use borrow.Author.Rules.{rules}
 use Rattle.tablefile.proofs.RoundTrips.{was_read}
 use Rattle.plan.proofs.main.Goals as goal
 

@@ -1,6 +1,5 @@
 -- `plan::print_lines` meets its contract.
 use Prim.Native.Nat.{◌-◌, ◌≤◌}
-use borrow.Author.Rules.{rules}
 use Rattle.plan.proofs.print_lines.Given as goal
 
 abbrev pub invariant-loop-k : goal.invariant-loop-k

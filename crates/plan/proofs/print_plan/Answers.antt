@@ -1,5 +1,4 @@
 -- `plan::print_plan` meets its contract.
-use borrow.Author.Rules.{rules}
 use Rattle.plan.proofs.Accepted.{ready, begins, counted}
 use Rattle.plan.proofs.print_plan.Goals as goal
 

@@ -1,6 +1,6 @@
 -- `replay::main` meets its contract.
-use borrow.Author.Rules.{rules}
 use Rattle.tablefile.proofs.RoundTrips.{was_read}
+use borrow.Author.Rules.{rules}
 use Rattle.replay.proofs.main.Goals as goal
 
 pub replay-requires : goal.replay-requires

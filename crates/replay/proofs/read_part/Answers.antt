@@ -2,7 +2,6 @@
 use Prim.Native.Nat.{◌-◌}
 use native.Mathlib.Omega.{arith}
 use borrow.Rule.Slice.PartMut.{take_put}
-use borrow.Author.Rules.{rules}
 use Rattle.replay.proofs.read_part.Goals as goal
 
 pub returns-clause-before : goal.returns-clause-before

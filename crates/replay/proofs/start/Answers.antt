@@ -1,5 +1,4 @@
 -- `replay::start` meets its contract.
-use borrow.Author.Rules.{rules}
 use Rattle.replay.proofs.Chunks.{start_is}
 use Rattle.replay.proofs.start.Goals as goal
 

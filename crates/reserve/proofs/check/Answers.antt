@@ -1,6 +1,5 @@
 -- `reserve::check` meets its contract.
-use borrow.Author.Rules.{rules}
-use Rattle.reserve.proofs.Reading.Verdict.{rows_ready, check_refused, check_none, check_tight}
+use Rattle.reserve.proofs.Verdict.{rows_ready, check_refused, check_none, check_tight}
 use Rattle.reserve.proofs.check.Goals as goal
 
 pub tight_row-k-requires : goal.tight_row-k-requires

@@ -1,7 +1,6 @@
 -- `reserve::from_clock` meets its contract.
-use borrow.Author.Rules.{rules}
-use Rattle.reserve.proofs.Reading.Verdict.{rows_ready}
-use Rattle.reserve.proofs.Sweeping.FromClock.{from_refused, from_none}
+use Rattle.reserve.proofs.Verdict.{rows_ready}
+use Rattle.reserve.proofs.FromClock.{from_refused, from_none}
 use Rattle.reserve.proofs.from_clock.Goals as goal
 
 pub down-swept-requires : goal.down-swept-requires

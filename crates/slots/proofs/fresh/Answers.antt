@@ -1,6 +1,5 @@
 -- `slots::fresh` meets its contract.
-use borrow.Author.Rules.{rules}
-use Rattle.slots.proofs.Cases.AnswerCases.{fresh_few, fresh_none, fresh_refused}
+use Rattle.slots.proofs.AnswerCases.{fresh_few, fresh_none, fresh_refused}
 use Rattle.slots.proofs.fresh.Goals as goal
 
 pub fresh_jobs-requires : goal.fresh_jobs-requires

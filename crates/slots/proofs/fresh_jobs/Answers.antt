@@ -1,8 +1,6 @@
 -- `slots::fresh_jobs` meets its contract.
-use Prim.Native.Nat.{◌-◌}
-use borrow.Author.Rules.{rules}
 use Rattle.table.proofs.Lists.{long}
-use Rattle.slots.proofs.Places.EntryLoops.{Freshening, freshening_start, freshening_step, freshening_end}
+use Rattle.slots.proofs.EntryLoops.{freshening_start, freshening_step, freshening_end}
 use Rattle.slots.proofs.fresh_jobs.Goals as goal
 
 pub loop-i-init : goal.loop-i-init

@@ -1,6 +1,5 @@
 -- `table::check_rows` meets its contract: each return is a case of the answer.
 use native.Mathlib.Omega.{arith}
-use borrow.Author.Rules.{rules}
 use Rattle.table.proofs.Check.{check_empty, check_many, check_fault, check_cycle, check_none}
 use Rattle.table.proofs.check_rows.Goals as goal
 

@@ -1,11 +1,6 @@
 -- `table::faults` meets its contract. The loop's invariant: the faults of the table are those of the rows from i on. The measure is the number of rows left.
-use mathlib.Core.Path.{◌≡◌, refl}
-use Prim.Native.Nat.{◌+◌, ◌-◌, ◌≤◌}
+use mathlib.Core.Path.{refl}
 use native.Mathlib.Omega.{arith}
-use borrow.Author.Rules.{rules}
-use lib.ListN.{drop}
-use Rattle.table.specs.Rows.{used}
-use Rattle.table.specs.Check.{faults_of}
 use Rattle.table.proofs.Lists.{long}
 use Rattle.table.proofs.FaultCases.{faults_go, faults_stop, faults_end}
 use Rattle.table.proofs.faults.Goals as goal

@@ -1,12 +1,9 @@
 -- `table::fold` meets its contract. The loop's invariant: capped, the cycle is the fold from c of the rows from i on. The measure is the number of rows left.
-use mathlib.Core.Path.{◌≡◌, refl}
+use mathlib.Core.Path.{◌≡◌}
 use Prim.Native.Nat.{◌-◌, ◌≤◌}
-use native.Mathlib.Omega.{arith}
-use borrow.Author.Rules.{rules}
 use lib.ListN.{drop}
 use Rattle.table.specs.Rows.{used, fold_of, cycle_of}
-use Rattle.table.proofs.Lists.{long}
-use Rattle.table.proofs.Capped.{capped, fold_turn, joined_small, fold_end}
+use Rattle.table.proofs.Capped.{capped}
 use Rattle.table.proofs.fold.Given as goal
 
 abbrev pub invariant-loop-i : goal.invariant-loop-i

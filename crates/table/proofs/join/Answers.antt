@@ -2,7 +2,6 @@
 use Prim.Native.Nat.{◌/◌, ◌≤◌}
 use native.Mathlib.Omega.{arith}
 use native.Mathlib.Nat.{div-le_self, mul-le-mul}
-use borrow.Author.Rules.{rules}
 use Rattle.table.proofs.Capped.{joined_none, joined_under, joined_over}
 use Rattle.table.proofs.join.Goals as goal
 

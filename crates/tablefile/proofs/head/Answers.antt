@@ -1,5 +1,4 @@
 -- `tablefile::head` meets its contract.
-use borrow.Author.Rules.{rules}
 use Rattle.tablefile.proofs.HeadCases.{head_under, head_differs, head_version, head_empty, head_many, head_size, head_none}
 use Rattle.tablefile.proofs.head.Goals as goal
 

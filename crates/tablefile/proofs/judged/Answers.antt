@@ -1,6 +1,5 @@
 -- `tablefile::judged` meets its contract.
-use borrow.Author.Rules.{rules}
-use Rattle.reserve.proofs.Reading.Verdict.{checked_refusal}
+use Rattle.reserve.proofs.Verdict.{checked_refusal}
 use Rattle.tablefile.proofs.ReadCases.{judged_none, judged_table, judged_zeros}
 use Rattle.tablefile.proofs.judged.Goals as goal
 

@@ -1,5 +1,4 @@
 -- `tablefile::put_row` meets its contract.
-use borrow.Author.Rules.{rules}
 use Rattle.tablefile.proofs.WriteCases.{row_put}
 use Rattle.tablefile.proofs.put_row.Goals as goal
 

@@ -1,8 +1,6 @@
 -- `tablefile::put_rows` meets its contract.
-use Prim.Native.Nat.{◌-◌}
-use borrow.Author.Rules.{rules}
 use Rattle.table.proofs.Lists.{long}
-use Rattle.tablefile.proofs.WriteCases.{Put, put_start, put_step, put_end}
+use Rattle.tablefile.proofs.WriteCases.{put_start, put_step, put_end}
 use Rattle.tablefile.proofs.put_rows.Goals as goal
 
 pub loop-i-init : goal.loop-i-init

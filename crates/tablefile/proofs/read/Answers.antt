@@ -1,5 +1,4 @@
 -- `tablefile::read` meets its contract.
-use borrow.Author.Rules.{rules}
 use Rattle.tablefile.proofs.ReadCases.{read_refused, read_few, read_judged}
 use Rattle.tablefile.proofs.read.Goals as goal
 

@@ -1,5 +1,4 @@
 -- `tablefile::row_from` meets its contract.
-use borrow.Author.Rules.{rules}
 use Rattle.tablefile.proofs.ReadCases.{row_by}
 use Rattle.tablefile.proofs.row_from.Goals as goal
 

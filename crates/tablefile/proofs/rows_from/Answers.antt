@@ -1,7 +1,5 @@
 -- `tablefile::rows_from` meets its contract.
-use Prim.Native.Nat.{◌-◌}
-use borrow.Author.Rules.{rules}
-use Rattle.tablefile.proofs.ReadCases.{Read, rows_start, rows_step, rows_end}
+use Rattle.tablefile.proofs.ReadCases.{rows_start, rows_step, rows_end}
 use Rattle.tablefile.proofs.rows_from.Goals as goal
 
 pub loop-i-init : goal.loop-i-init

@@ -1,7 +1,6 @@
 -- `tablefile::rows_from` meets its contract.
 use Prim.Native.Nat.{◌-◌}
-use borrow.Author.Rules.{rules}
-use Rattle.tablefile.proofs.ReadCases.{Read, rows_start, rows_step, rows_end}
+use Rattle.tablefile.proofs.ReadCases.{Read}
 use Rattle.tablefile.proofs.rows_from.Given as goal
 
 abbrev pub invariant-loop-i : goal.invariant-loop-i

@@ -1,5 +1,4 @@
 -- `vectors::main` meets its contract.
-use borrow.Author.Rules.{rules}
 use Rattle.vectors.proofs.main.Given as goal
 
 abbrev pub invariant-loop-more : goal.invariant-loop-more

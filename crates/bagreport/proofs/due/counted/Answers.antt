@@ -1,6 +1,5 @@
 -- `bagreport::due::counted` meets its contract.
-use borrow.Author.Rules.{rules}
-use Rattle.bagreport.proofs.Telling.Closing.{one_fits, counted_is}
+use Rattle.bagreport.proofs.Closing.{one_fits, counted_is}
 use Rattle.bagreport.proofs.due.counted.Goals as goal
 
 pub overflow_add-result-2 : goal.overflow_add-result-2

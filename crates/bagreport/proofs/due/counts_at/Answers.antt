@@ -1,10 +1,9 @@
 -- `bagreport::due::counts_at` meets its contract.
-use borrow.Author.Rules.{rules}
-use Rattle.bagreport.proofs.Telling.Closing.{count_ends, count_stays}
+use Rattle.bagreport.proofs.Closing.{count_ends, count_stays}
 use Rattle.bagreport.proofs.due.counts_at.Goals as goal
 
-pub returns-then-starts : goal.returns-then-starts
-returns-then-starts c = search (count_ends)
+pub returns-then-starts_at : goal.returns-then-starts_at
+returns-then-starts_at c = search (count_ends)
 
-pub returns-else-starts : goal.returns-else-starts
-returns-else-starts c = search (count_stays)
+pub returns-else-starts_at : goal.returns-else-starts_at
+returns-else-starts_at c = search (count_stays)

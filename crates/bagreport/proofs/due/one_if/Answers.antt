@@ -1,5 +1,5 @@
 -- `bagreport::due::one_if` meets its contract.
-use Rattle.bagreport.proofs.Telling.Closing.{one_same, one_other}
+use Rattle.bagreport.proofs.Closing.{one_same, one_other}
 use Rattle.bagreport.proofs.due.one_if.Goals as goal
 
 pub returns-then-ended-code : goal.returns-then-ended-code

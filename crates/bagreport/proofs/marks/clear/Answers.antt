@@ -1,7 +1,5 @@
 -- `bagreport::marks::clear` meets its contract. The loop's invariant: the bytes so far are 0, and the others are as they were.
-use Prim.Native.Nat.{◌-◌}
-use borrow.Author.Rules.{rules}
-use Rattle.bagreport.proofs.Bagging.Marking.{Clearing, clearing_start, clearing_size, clearing_place, clearing_step, clearing_end}
+use Rattle.bagreport.proofs.Marking.{clearing_start, clearing_size, clearing_place, clearing_step, clearing_end}
 use Rattle.bagreport.proofs.marks.clear.Goals as goal
 
 pub loop-i-init : goal.loop-i-init

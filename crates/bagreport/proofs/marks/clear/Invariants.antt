@@ -1,7 +1,6 @@
 -- `bagreport::marks::clear` meets its contract. The loop's invariant: the bytes so far are 0, and the others are as they were.
 use Prim.Native.Nat.{◌-◌}
-use borrow.Author.Rules.{rules}
-use Rattle.bagreport.proofs.Bagging.Marking.{Clearing, clearing_start, clearing_size, clearing_place, clearing_step, clearing_end}
+use Rattle.bagreport.proofs.Marking.{Clearing}
 use Rattle.bagreport.proofs.marks.clear.Given as goal
 
 abbrev pub invariant-loop-i : goal.invariant-loop-i

@@ -1,5 +1,5 @@
 -- `bagreport::marks::joined` meets its contract.
-use Rattle.bagreport.proofs.Bagging.Marking.{joined_first, joined_same, joined_both}
+use Rattle.bagreport.proofs.Marking.{joined_first, joined_same, joined_both}
 use Rattle.bagreport.proofs.marks.joined.Goals as goal
 
 pub returns-then-mark-eq0 : goal.returns-then-mark-eq0

@@ -1,5 +1,5 @@
 -- `bagreport::marks::kind` meets its contract.
-use Rattle.bagreport.proofs.Bagging.Marking.{kind_model, kind_fixed}
+use Rattle.bagreport.proofs.Marking.{kind_model, kind_fixed}
 use Rattle.bagreport.proofs.marks.kind.Goals as goal
 
 pub returns-then-o-eq1 : goal.returns-then-o-eq1

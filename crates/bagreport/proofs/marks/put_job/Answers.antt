@@ -1,6 +1,5 @@
 -- `bagreport::marks::put_job` meets its contract.
-use borrow.Author.Rules.{rules}
-use Rattle.bagreport.proofs.Bagging.Marking.{put_at, put_before, put_past}
+use Rattle.bagreport.proofs.Marking.{put_at, put_before, put_past}
 use Rattle.bagreport.proofs.marks.put_job.Goals as goal
 
 pub returns-then-spans-bag-clause-bytes : goal.returns-then-spans-bag-clause-bytes

@@ -1,8 +1,6 @@
 -- `bagreport::marks::seek` meets its contract. The loop's invariant: the bags before this one end before the slot.
-use Prim.Native.Nat.{◌-◌}
 use native.Mathlib.Omega.{arith}
-use borrow.Author.Rules.{rules}
-use Rattle.bagreport.proofs.Bagging.Marking.{Seeking, seeking_start, seeking_place, seeking_found, seeking_step, seeking_end}
+use Rattle.bagreport.proofs.Marking.{seeking_start, seeking_place, seeking_found, seeking_step, seeking_end}
 use Rattle.bagreport.proofs.marks.seek.Goals as goal
 
 pub loop-bag-init : goal.loop-bag-init

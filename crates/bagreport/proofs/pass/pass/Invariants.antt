@@ -1,9 +1,7 @@
 -- `bagreport::pass::pass` meets its contract.
 use Prim.Native.Nat.{◌-◌}
-use native.Mathlib.Omega.{arith}
 use lib.ListN.{length}
-use borrow.Author.Rules.{rules}
-use Rattle.bagreport.proofs.Passes.Passing.{PassedTo, passed_start, passed_step, passed_refusal, passed_counts, passed_bags, stopped_never, stopped_refusal}
+use Rattle.bagreport.proofs.Passing.{PassedTo}
 use Rattle.bagreport.proofs.pass.pass.Given as goal
 
 abbrev pub invariant-loop-at : goal.invariant-loop-at

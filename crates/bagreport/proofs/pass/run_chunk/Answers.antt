@@ -1,6 +1,6 @@
 -- `bagreport::pass::run_chunk` meets its contract.
 use borrow.Author.Rules.{rules}
-use Rattle.bagreport.proofs.Passes.ChunkRuns.{chunk_stopped, chunk_next, chunk_told}
+use Rattle.bagreport.proofs.ChunkRuns.{chunk_stopped, chunk_next, chunk_told}
 use Rattle.bagreport.proofs.pass.run_chunk.Goals as goal
 
 pub returns-clause-stopped : goal.returns-clause-stopped

@@ -1,13 +1,11 @@
 -- `bagreport::pass::tell` meets its contract. The loops' invariants: the slots before the i-th have been told; of a stretch's slots, those before the i-th; at its end, the rows before
 -- the k-th have been closed.
-use Prim.Native.Nat.{◌-◌}
 use native.Mathlib.Omega.{arith}
 use borrow.Author.Rules.{rules}
-use Rattle.table.proofs.Windows.{stretch_within}
 use Rattle.table.proofs.Lists.{long}
-use Rattle.bagreport.proofs.Telling.SlotsTold.{Along, along_byte, along_report, along_word, along_units, along_step}
-use Rattle.bagreport.proofs.Telling.Closing.{Closing, closing_all, closing_done, closing_fell, closing_step}
-use Rattle.bagreport.proofs.Passes.Recounting.{Recounting, recounting_start, recounting_word, recounting_row, recounting_stop, recounting_along, recounting_past, recounting_closing, recounting_step, recounting_tale, recounting_bags, recounting_beyond}
+use Rattle.bagreport.proofs.SlotsTold.{along_byte, along_report, along_word, along_units, along_step}
+use Rattle.bagreport.proofs.Closing.{closing_period, closing_all, closing_done, closing_fell, closing_step}
+use Rattle.bagreport.proofs.Recounting.{recounting_start, recounting_word, recounting_period, recounting_row, recounting_stop, recounting_along, recounting_past, recounting_closing, recounting_step, recounting_tale, recounting_bags, recounting_beyond}
 use Rattle.bagreport.proofs.pass.tell.Goals as goal
 
 pub loop-i-init : goal.loop-i-init
@@ -17,7 +15,7 @@ pub overflow_add-base : goal.overflow_add-base
 overflow_add-base c = search (recounting_word)
 
 pub loop-i-2-init : goal.loop-i-2-init
-loop-i-2-init c = recounting_along c.loop-i.invariant (stretch_within _ _ _ _ c.stretch-stop.ensures c.loop-i-test.true c.to_nearest_end-gap.ensures.0).0 (stretch_within _ _ _ _ c.stretch-stop.ensures c.loop-i-test.true c.to_nearest_end-gap.ensures.0).1
+loop-i-2-init c = recounting_along c.loop-i.invariant c.stretch-stop.ensures.0 c.stretch-stop.ensures.1
 
 pub bounds-log-i : goal.bounds-log-i
 bounds-log-i c = search (along_byte)
@@ -35,7 +33,7 @@ pub loop-i-2-preserved : goal.loop-i-2-preserved
 loop-i-2-preserved c = search (along_step)
 
 pub overflow_add-s : goal.overflow_add-s
-overflow_add-s c = let l = recounting_stop c.loop-i.invariant (stretch_within _ _ _ _ c.stretch-stop.ensures c.loop-i-test.true c.to_nearest_end-gap.ensures.0).0 (stretch_within _ _ _ _ c.stretch-stop.ensures c.loop-i-test.true c.to_nearest_end-gap.ensures.0).1 in search (rules, l)
+overflow_add-s c = let l = recounting_stop c.loop-i.invariant c.stretch-stop.ensures.0 c.stretch-stop.ensures.1 in search (rules, l)
 
 pub offset_bounds-t-place : goal.offset_bounds-t-place
 offset_bounds-t-place c = let l = recounting_row c.loop-i.invariant in search (rules, l)
@@ -50,17 +48,20 @@ pub bounds-opens-place : goal.bounds-opens-place
 bounds-opens-place c = search (recounting_row)
 
 pub mark_job-bag-requires : goal.mark_job-bag-requires
-mark_job-bag-requires c = (search rules, search rules, recounting_past c.loop-i.invariant (stretch_within _ _ _ _ c.stretch-stop.ensures c.loop-i-test.true c.to_nearest_end-gap.ensures.0).0 (stretch_within _ _ _ _ c.stretch-stop.ensures c.loop-i-test.true c.to_nearest_end-gap.ensures.0).1)
+mark_job-bag-requires c = (search (recounting_period), search rules, search rules, search (recounting_past))
 
 pub loop-k-init : goal.loop-k-init
-loop-k-init c = recounting_closing c.loop-i.invariant (stretch_within _ _ _ _ c.stretch-stop.ensures c.loop-i-test.true c.to_nearest_end-gap.ensures.0).0 (stretch_within _ _ _ _ c.stretch-stop.ensures c.loop-i-test.true c.to_nearest_end-gap.ensures.0).1 c.loop-i-2.invariant
+loop-k-init c = recounting_closing c.loop-i.invariant c.stretch-stop.ensures.0 c.stretch-stop.ensures.1 c.loop-i-2.invariant
 
 pub loop-i-preserved : goal.loop-i-preserved
-loop-i-preserved c = recounting_step c.loop-i.invariant (stretch_within _ _ _ _ c.stretch-stop.ensures c.loop-i-test.true c.to_nearest_end-gap.ensures.0).0 (stretch_within _ _ _ _ c.stretch-stop.ensures c.loop-i-test.true c.to_nearest_end-gap.ensures.0).1 c.to_nearest_end-gap.ensures.1 (stretch_within _ _ _ _ c.stretch-stop.ensures c.loop-i-test.true c.to_nearest_end-gap.ensures.0).2
+loop-i-preserved c = recounting_step c.loop-i.invariant c.stretch-stop.ensures.0 c.stretch-stop.ensures.1 c.to_nearest_end-gap.ensures.1 c.stretch-stop.ensures.2
     c.loop-i-2.invariant c.loop-i-2-test.false c.mark_job-bag.ensures.bag c.mark_job-bag.ensures.bytes c.loop-k.invariant c.loop-k-test.false
 
 pub counts_at-c-requires : goal.counts_at-c-requires
-counts_at-c-requires c = (search (closing_all), search (closing_done), search (closing_fell))
+counts_at-c-requires c = (search (closing_period), search (closing_all), search (closing_done), search (closing_fell))
+
+pub open_at-o-requires : goal.open_at-o-requires
+open_at-o-requires c = search (closing_period)
 
 pub loop-k-preserved : goal.loop-k-preserved
 loop-k-preserved c = search (closing_step)

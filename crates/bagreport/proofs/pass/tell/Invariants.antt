@@ -1,13 +1,9 @@
 -- `bagreport::pass::tell` meets its contract. The loops' invariants: the slots before the i-th have been told; of a stretch's slots, those before the i-th; at its end, the rows before
 -- the k-th have been closed.
 use Prim.Native.Nat.{◌-◌}
-use native.Mathlib.Omega.{arith}
-use borrow.Author.Rules.{rules}
-use Rattle.table.proofs.Windows.{stretch_within}
-use Rattle.table.proofs.Lists.{long}
-use Rattle.bagreport.proofs.Telling.SlotsTold.{Along, along_byte, along_report, along_word, along_units, along_step}
-use Rattle.bagreport.proofs.Telling.Closing.{Closing, closing_all, closing_done, closing_fell, closing_step}
-use Rattle.bagreport.proofs.Passes.Recounting.{Recounting, recounting_start, recounting_word, recounting_row, recounting_stop, recounting_along, recounting_past, recounting_closing, recounting_step, recounting_tale, recounting_bags, recounting_beyond}
+use Rattle.bagreport.proofs.SlotsTold.{Along}
+use Rattle.bagreport.proofs.Closing.{Closing}
+use Rattle.bagreport.proofs.Recounting.{Recounting}
 use Rattle.bagreport.proofs.pass.tell.Given as goal
 
 abbrev pub invariant-loop-i-2 : goal.invariant-loop-i-2

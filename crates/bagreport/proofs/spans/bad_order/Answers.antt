@@ -1,6 +1,5 @@
 -- `bagreport::spans::bad_order` meets its contract.
-use borrow.Author.Rules.{rules}
-use Rattle.bagreport.proofs.Bagging.SpanOrder.{or_given, or_not}
+use Rattle.bagreport.proofs.SpanOrder.{or_given, or_not}
 use Rattle.bagreport.proofs.spans.bad_order.Goals as goal
 
 pub returns-then-bad_spans : goal.returns-then-bad_spans

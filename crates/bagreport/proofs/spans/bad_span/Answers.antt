@@ -1,5 +1,5 @@
 -- `bagreport::spans::bad_span` meets its contract.
-use Rattle.bagreport.proofs.Bagging.SpanOrder.{span_backward, span_beyond, span_follows}
+use Rattle.bagreport.proofs.SpanOrder.{span_backward, span_beyond, span_follows}
 use Rattle.bagreport.proofs.spans.bad_span.Goals as goal
 
 pub returns-then-end-start : goal.returns-then-end-start

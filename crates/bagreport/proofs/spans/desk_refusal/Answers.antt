@@ -1,6 +1,5 @@
 -- `bagreport::spans::desk_refusal` meets its contract.
-use borrow.Author.Rules.{rules}
-use Rattle.bagreport.proofs.Bagging.SpanOrder.{desk_row, desk_spans, desk_accepts}
+use Rattle.bagreport.proofs.SpanOrder.{desk_row, desk_spans, desk_accepts}
 use Rattle.bagreport.proofs.spans.desk_refusal.Goals as goal
 
 pub returns-then-no_row : goal.returns-then-no_row

@@ -1,5 +1,5 @@
 -- `bagreport::spans::no_row` meets its contract.
-use Rattle.bagreport.proofs.Bagging.SpanOrder.{row_none, row_over}
+use Rattle.bagreport.proofs.SpanOrder.{row_none, row_over}
 use Rattle.bagreport.proofs.spans.no_row.Goals as goal
 
 pub returns-then-row-eq0 : goal.returns-then-row-eq0

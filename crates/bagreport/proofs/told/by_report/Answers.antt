@@ -1,6 +1,5 @@
 -- `bagreport::told::by_report` meets its contract.
-use borrow.Author.Rules.{rules}
-use Rattle.bagreport.proofs.Telling.ToldCases.{report_over, report_on, report_failed}
+use Rattle.bagreport.proofs.ToldCases.{report_over, report_on, report_failed}
 use Rattle.bagreport.proofs.told.by_report.Goals as goal
 
 pub returns-then-u-p : goal.returns-then-u-p

@@ -1,5 +1,5 @@
 -- `bagreport::told::first_of` meets its contract.
-use Rattle.bagreport.proofs.Telling.ToldCases.{first_later, first_stands}
+use Rattle.bagreport.proofs.ToldCases.{first_later, first_stands}
 use Rattle.bagreport.proofs.told.first_of.Goals as goal
 
 pub returns-then-ended-eq0 : goal.returns-then-ended-eq0

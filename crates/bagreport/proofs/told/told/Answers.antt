@@ -1,13 +1,12 @@
 -- `bagreport::told::told` meets its contract.
-use borrow.Author.Rules.{rules}
-use Rattle.bagreport.proofs.Telling.ToldCases.{told_idle, told_primary, told_alternate}
+use Rattle.bagreport.proofs.ToldCases.{told_idle, told_primary, told_alternate}
 use Rattle.bagreport.proofs.told.told.Goals as goal
 
-pub returns-in-Idle : goal.returns-in-Idle
-returns-in-Idle c = search (told_idle)
+pub returns-then-ran-eq0 : goal.returns-then-ran-eq0
+returns-then-ran-eq0 c = search (told_idle)
 
-pub returns-in-Primary : goal.returns-in-Primary
-returns-in-Primary c = search (told_primary)
+pub returns-then-ran-le16 : goal.returns-then-ran-le16
+returns-then-ran-le16 c = search (told_primary)
 
-pub returns-in-Alternate : goal.returns-in-Alternate
-returns-in-Alternate c = search (told_alternate)
+pub returns : goal.returns
+returns c = search (told_alternate)

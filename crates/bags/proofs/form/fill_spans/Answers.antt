@@ -1,7 +1,5 @@
 -- `bags::form::fill_spans` meets its contract.
-use Prim.Native.Nat.{◌-◌}
-use borrow.Author.Rules.{rules}
-use Rattle.bags.proofs.Orders.{Filled, filled_start, filled_step, filled_end}
+use Rattle.bags.proofs.Orders.{filled_start, filled_step, filled_end}
 use Rattle.bags.proofs.form.fill_spans.Goals as goal
 
 pub loop-i-init : goal.loop-i-init

@@ -1,7 +1,6 @@
 -- `bags::form::fill_spans` meets its contract.
 use Prim.Native.Nat.{◌-◌}
-use borrow.Author.Rules.{rules}
-use Rattle.bags.proofs.Orders.{Filled, filled_start, filled_step, filled_end}
+use Rattle.bags.proofs.Orders.{Filled}
 use Rattle.bags.proofs.form.fill_spans.Given as goal
 
 abbrev pub invariant-loop-i : goal.invariant-loop-i

@@ -1,6 +1,5 @@
 -- `bags::lines::in_millionths` meets its contract.
 use native.Mathlib.Omega.{arith}
-use borrow.Author.Rules.{rules}
 use Rattle.bags.proofs.Figures.{millionths_by}
 use Rattle.bags.proofs.lines.in_millionths.Goals as goal
 

@@ -1,5 +1,4 @@
 -- `bags::lines::print_six` meets its contract.
-use borrow.Author.Rules.{rules}
 use Rattle.bags.proofs.lines.print_six.Given as goal
 
 abbrev pub invariant-loop-place : goal.invariant-loop-place

@@ -1,5 +1,4 @@
 -- `bench::bags::counts_number` meets its contract.
-use borrow.Author.Rules.{rules}
 use Rattle.bench.proofs.BagFigures.{share_of_lem}
 use Rattle.bench.proofs.bags.counts_number.Goals as goal
 

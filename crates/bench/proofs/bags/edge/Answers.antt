@@ -1,5 +1,4 @@
 -- `bench::bags::edge` meets its contract.
-use borrow.Author.Rules.{rules}
 use Rattle.bench.proofs.EvenBags.{edge_fits}
 use Rattle.bench.proofs.bags.edge.Goals as goal
 

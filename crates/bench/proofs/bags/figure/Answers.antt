@@ -1,7 +1,10 @@
 -- `bench::bags::figure` meets its contract.
-use borrow.Author.Rules.{rules}
+use native.Mathlib.Omega.{arith}
 use Rattle.bench.proofs.BagFigures.{figure_share, figure_refusal}
 use Rattle.bench.proofs.bags.figure.Goals as goal
+
+pub bounds-shares-i : goal.bounds-shares-i
+bounds-shares-i c = omega arith
 
 pub returns-then-i-lt16 : goal.returns-then-i-lt16
 returns-then-i-lt16 c = search (figure_share)

@@ -1,7 +1,5 @@
 -- `bench::bags::fill_spans` meets its contract.
-use Prim.Native.Nat.{◌-◌}
-use borrow.Author.Rules.{rules}
-use Rattle.bench.proofs.EvenBags.{Filled, filled_start, filled_size, filled_start_place, filled_end_place, filled_step, filled_end}
+use Rattle.bench.proofs.EvenBags.{filled_start, filled_size, filled_start_place, filled_end_place, filled_step, filled_end}
 use Rattle.bench.proofs.bags.fill_spans.Goals as goal
 
 pub loop-j-init : goal.loop-j-init

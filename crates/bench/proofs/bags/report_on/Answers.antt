@@ -1,5 +1,4 @@
 -- `bench::bags::report_on` meets its contract.
-use borrow.Author.Rules.{rules}
 use Rattle.bench.proofs.EvenBags.{asked_long, asked_report, asked_marks}
 use Rattle.bench.proofs.bags.report_on.Goals as goal
 

@@ -1,8 +1,8 @@
 -- `replay::chunk::moved` meets its contract.
 use mathlib.Core.Path.{refl}
 use native.Mathlib.Omega.{arith}
-use borrow.Author.Rules.{rules}
 use Rattle.replay.proofs.ChunkCases.{moved_none, moved_refused}
+use borrow.Author.Rules.{rules}
 use Rattle.replay.proofs.chunk.moved.Goals as goal
 
 pub returns-in-None : goal.returns-in-None

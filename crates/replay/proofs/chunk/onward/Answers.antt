@@ -1,5 +1,4 @@
 -- `replay::chunk::onward` meets its contract.
-use borrow.Author.Rules.{rules}
 use Rattle.replay.proofs.ChunkCases.{slots_room, lost_room, onward_none, log_none, onward_refused, log_refused}
 use Rattle.replay.proofs.chunk.onward.Goals as goal
 

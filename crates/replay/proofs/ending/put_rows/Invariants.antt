@@ -1,8 +1,6 @@
 -- `replay::ending::put_rows` meets its contract.
 use Prim.Native.Nat.{◌-◌}
-use borrow.Author.Rules.{rules}
-use Rattle.texts.proofs.Laying.{laid_same}
-use Rattle.replay.proofs.EndLines.{Rowed, rowed_start, rowed_step, rowed_end, rowed_short}
+use Rattle.replay.proofs.EndLines.{Rowed}
 use Rattle.replay.proofs.ending.put_rows.Given as goal
 
 abbrev pub invariant-loop-i : goal.invariant-loop-i

@@ -1,9 +1,7 @@
 -- `replay::lines::put_lines` meets its contract.
 use Prim.Native.Nat.{◌-◌}
 use lib.ListN.{length}
-use borrow.Author.Rules.{rules}
-use Rattle.texts.proofs.Laying.{laid_same}
-use Rattle.replay.proofs.SlotLines.{Lined, lined_start, lined_step, lined_end, lined_short}
+use Rattle.replay.proofs.SlotLines.{Lined}
 use Rattle.replay.proofs.lines.put_lines.Given as goal
 
 abbrev pub invariant-loop-i : goal.invariant-loop-i

@@ -1,9 +1,7 @@
 -- `reserve::scan::count_jobs` meets its contract. The loop's invariant: the jobs of the rows so far are counted.
-use Prim.Native.Nat.{◌-◌}
 use native.Mathlib.Omega.{arith}
-use borrow.Author.Rules.{rules}
 use Rattle.table.proofs.Lists.{long}
-use Rattle.reserve.proofs.Firsts.Scanning.{CountedTo, jobs_few, count_start, count_step, count_end}
+use Rattle.reserve.proofs.Scanning.{jobs_few, count_start, count_step, count_end}
 use Rattle.reserve.proofs.scan.count_jobs.Goals as goal
 
 pub loop-i-init : goal.loop-i-init

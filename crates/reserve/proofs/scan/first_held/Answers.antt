@@ -1,7 +1,5 @@
 -- `reserve::scan::first_held` meets its contract. The loop's invariant: the slots passed are not the row's.
-use Prim.Native.Nat.{◌-◌}
-use borrow.Author.Rules.{rules}
-use Rattle.reserve.proofs.Firsts.Scanning.{Missed, missed_start, missed_found, missed_more, missed_all}
+use Rattle.reserve.proofs.Scanning.{missed_start, missed_found, missed_more, missed_all}
 use Rattle.reserve.proofs.scan.first_held.Goals as goal
 
 pub loop-s-init : goal.loop-s-init

@@ -1,7 +1,6 @@
 -- `reserve::scan::first_held` meets its contract. The loop's invariant: the slots passed are not the row's.
 use Prim.Native.Nat.{◌-◌}
-use borrow.Author.Rules.{rules}
-use Rattle.reserve.proofs.Firsts.Scanning.{Missed, missed_start, missed_found, missed_more, missed_all}
+use Rattle.reserve.proofs.Scanning.{Missed}
 use Rattle.reserve.proofs.scan.first_held.Given as goal
 
 abbrev pub invariant-loop-s : goal.invariant-loop-s

@@ -1,28 +1,22 @@
 -- `reserve::scan::job_first` meets its contract: the window is within the cycle, and the list tells its holder.
+use mathlib.Core.Path.{refl}
 use native.Mathlib.Omega.{arith}
-use borrow.Author.Rules.{rules}
 use Rattle.table.proofs.Lists.{long}
-use Rattle.reserve.proofs.Reading.Ready.{few}
-use Rattle.reserve.proofs.Firsts.Scanning.{job_small, start_small, end_small, start_first, end_listed, job_first}
+use Rattle.reserve.proofs.Ready.{few, cycle_fits}
+use Rattle.reserve.proofs.Scanning.{window_fits, job_first}
 use Rattle.reserve.proofs.scan.job_first.Goals as goal
 
 pub bounds-t-k : goal.bounds-t-k
 bounds-t-k c = omega (arith, few c.requires.0)
 
-pub overflow_add-j : goal.overflow_add-j
-overflow_add-j c = search (job_small, long)
+pub overflow_mul-w : goal.overflow_mul-w
+overflow_mul-w c = omega (arith, cycle_fits c.requires.0, window_fits c.requires.0 (search (long)) _ c.requires.1 _ c.requires.2)
 
-pub overflow_cast-from : goal.overflow_cast-from
-overflow_cast-from c = search (start_small, long)
-
-pub overflow_add-j-2 : goal.overflow_add-j-2
-overflow_add-j-2 c = search (job_small, long)
-
-pub overflow_cast-to : goal.overflow_cast-to
-overflow_cast-to c = search (end_small, long)
+pub overflow_add-w : goal.overflow_add-w
+overflow_add-w c = omega (arith, cycle_fits c.requires.0, window_fits c.requires.0 (search (long)) _ c.requires.1 _ c.requires.2)
 
 pub first_held-requires : goal.first_held-requires
-first_held-requires c = (search (start_first, long), search (end_listed, long))
+first_held-requires c = (omega arith, omega (arith, c.requires.3.room, window_fits c.requires.0 (search (long)) _ c.requires.1 _ c.requires.2))
 
 pub returns : goal.returns
-returns c = search (job_first, long)
+returns c = job_first c.requires.0 (search (long)) _ c.requires.1 _ c.requires.3 _ _ _ c.requires.2 refl c.first_held.ensures

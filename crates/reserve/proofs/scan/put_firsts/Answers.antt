@@ -1,9 +1,7 @@
 -- `reserve::scan::put_firsts` meets its contract. The loop's invariant: the first slots of the rows so far are written, up to the place `at`.
-use Prim.Native.Nat.{◌-◌}
 use native.Mathlib.Omega.{arith}
-use borrow.Author.Rules.{rules}
 use Rattle.table.proofs.Lists.{long}
-use Rattle.reserve.proofs.Firsts.Scanning.{PutRows, rows_room, rows_start, rows_step, rows_end}
+use Rattle.reserve.proofs.Scanning.{rows_room, rows_start, rows_step, rows_end}
 use Rattle.reserve.proofs.scan.put_firsts.Goals as goal
 
 pub loop-i-init : goal.loop-i-init

@@ -1,9 +1,6 @@
 -- `reserve::scan::put_firsts` meets its contract. The loop's invariant: the first slots of the rows so far are written, up to the place `at`.
 use Prim.Native.Nat.{◌-◌}
-use native.Mathlib.Omega.{arith}
-use borrow.Author.Rules.{rules}
-use Rattle.table.proofs.Lists.{long}
-use Rattle.reserve.proofs.Firsts.Scanning.{PutRows, rows_room, rows_start, rows_step, rows_end}
+use Rattle.reserve.proofs.Scanning.{PutRows}
 use Rattle.reserve.proofs.scan.put_firsts.Given as goal
 
 abbrev pub invariant-loop-i : goal.invariant-loop-i

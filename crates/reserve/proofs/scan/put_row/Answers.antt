@@ -1,8 +1,6 @@
 -- `reserve::scan::put_row` meets its contract. The loop's invariant: the first slots of the jobs so far are written.
-use Prim.Native.Nat.{◌-◌}
 use native.Mathlib.Omega.{arith}
-use borrow.Author.Rules.{rules}
-use Rattle.reserve.proofs.Firsts.Scanning.{PutJobs, jobs_start, jobs_step, jobs_end}
+use Rattle.reserve.proofs.Scanning.{jobs_start, jobs_step, jobs_end}
 use Rattle.reserve.proofs.scan.put_row.Goals as goal
 
 pub row_jobs-jobs-requires : goal.row_jobs-jobs-requires

@@ -1,10 +1,8 @@
 -- `reserve::sweep::alternates` meets its contract. The loop's invariant: the alternates of the places so far are copied.
-use mathlib.Core.Path.{◌≡◌, refl}
-use Prim.Native.Nat.{◌-◌}
-use lib.ListN.{length}
+use mathlib.Core.Path.{refl}
 use borrow.Author.Rules.{rules}
 use Rattle.table.proofs.Lists.{long}
-use Rattle.reserve.proofs.Sweeping.Alternates.{Copied, copied_start, copied_step, copied_end}
+use Rattle.reserve.proofs.Alternates.{copied_start, copied_step, copied_end}
 use Rattle.reserve.proofs.sweep.alternates.Goals as goal
 
 pub loop-at-init : goal.loop-at-init

@@ -1,10 +1,8 @@
 -- `reserve::sweep::alternates` meets its contract. The loop's invariant: the alternates of the places so far are copied.
-use mathlib.Core.Path.{◌≡◌, refl}
+use mathlib.Core.Path.{◌≡◌}
 use Prim.Native.Nat.{◌-◌}
 use lib.ListN.{length}
-use borrow.Author.Rules.{rules}
-use Rattle.table.proofs.Lists.{long}
-use Rattle.reserve.proofs.Sweeping.Alternates.{Copied, copied_start, copied_step, copied_end}
+use Rattle.reserve.proofs.Alternates.{Copied}
 use Rattle.reserve.proofs.sweep.alternates.Given as goal
 
 abbrev pub invariant-loop-at : goal.invariant-loop-at

@@ -1,6 +1,5 @@
 -- `reserve::sweep::arrived` meets its contract.
-use borrow.Author.Rules.{rules}
-use Rattle.reserve.proofs.Sweeping.Turn.{arrived_last, arrived_on}
+use Rattle.reserve.proofs.Turn.{arrived_last, arrived_on}
 use Rattle.reserve.proofs.sweep.arrived.Goals as goal
 
 pub returns-then-window_end-t : goal.returns-then-window_end-t

@@ -1,6 +1,5 @@
 -- `reserve::sweep::claim` meets its contract.
-use borrow.Author.Rules.{rules}
-use Rattle.reserve.proofs.Sweeping.Turn.{claim_left, claim_whole}
+use Rattle.reserve.proofs.Turn.{claim_left, claim_whole}
 use Rattle.reserve.proofs.sweep.claim.Goals as goal
 
 pub returns-then-window_end : goal.returns-then-window_end

@@ -1,9 +1,8 @@
 -- `reserve::sweep::down` meets its contract. The loop's invariant: the rests are ready for the next slot down, and the holder of the slot passed last and the lowest row
 -- that is short so far are found.
 use native.Mathlib.Omega.{arith}
-use borrow.Author.Rules.{rules}
-use Rattle.reserve.proofs.Sweeping.Down.{next_slot, next_turn, found_start, found_turn}
-use Rattle.reserve.proofs.Sweeping.Sweeps.{Sweeping, Finding, sweep_start, down_end}
+use Rattle.reserve.proofs.Down.{next_slot, next_turn, found_start, found_turn}
+use Rattle.reserve.proofs.Sweeps.{sweep_start, down_end}
 use Rattle.reserve.proofs.sweep.down.Goals as goal
 
 pub loop-s-init : goal.loop-s-init

@@ -1,8 +1,7 @@
 -- `reserve::sweep::fill` meets its contract. The loop's invariant: the rests are ready for the next slot down, and the slots passed have their holders' bytes.
 use native.Mathlib.Omega.{arith}
-use borrow.Author.Rules.{rules}
-use Rattle.reserve.proofs.Sweeping.Down.{next_slot, next_turn, filled_start, filled_turn}
-use Rattle.reserve.proofs.Sweeping.Sweeps.{Sweeping, Filling, sweep_start, fill_end}
+use Rattle.reserve.proofs.Down.{next_slot, next_turn, filled_start, filled_turn}
+use Rattle.reserve.proofs.Sweeps.{sweep_start, fill_end}
 use Rattle.reserve.proofs.sweep.fill.Goals as goal
 
 pub loop-s-init : goal.loop-s-init

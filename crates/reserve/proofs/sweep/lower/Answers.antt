@@ -1,6 +1,6 @@
 -- `reserve::sweep::lower` meets its contract: its four ways out are the cases of `lower_of`.
 use borrow.Author.Tests.{eq-eqb, ne_eqb, lt-ltb, le-ltb}
-use Rattle.reserve.specs.Private.{lower_of}
+use Rattle.reserve.specs.Turns.{lower_of}
 use Rattle.reserve.proofs.sweep.lower.Goals as goal
 
 pub returns-then-a-eq0 : goal.returns-then-a-eq0

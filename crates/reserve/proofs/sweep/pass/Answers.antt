@@ -1,17 +1,22 @@
 -- `reserve::sweep::pass` meets its contract. The loop's invariant: the rows so far have had their turn.
-use Prim.Native.Nat.{◌-◌, ◌≤◌}
-use mathlib.Core.Path.{◌≡◌, refl}
+use mathlib.Core.Path.{refl}
 use native.Mathlib.Omega.{arith}
-use lib.ListN.{length, length-set}
+use lib.ListN.{length-set}
 use borrow.Author.Rules.{rules}
 use Rattle.table.proofs.Lists.{long}
-use Rattle.reserve.proofs.Reading.Ready.{few}
-use Rattle.reserve.proofs.Sweeping.Turn.{turn_start}
-use Rattle.reserve.proofs.Sweeping.Pass.{Turn, pass_step, pass_end}
+use Rattle.reserve.proofs.Ready.{few, period_some}
+use Rattle.reserve.proofs.Turn.{turn_start}
+use Rattle.reserve.proofs.Pass.{pass_step, pass_end}
 use Rattle.reserve.proofs.sweep.pass.Goals as goal
 
 pub loop-i-init : goal.loop-i-init
 loop-i-init c = (omega arith, few c.requires.0, search (long), refl, turn_start _ _ _ _ _)
+
+pub arrived-x-requires : goal.arrived-x-requires
+arrived-x-requires c = search (period_some)
+
+pub short_here-requires : goal.short_here-requires
+short_here-requires c = search (period_some)
 
 pub loop-i-preserved : goal.loop-i-preserved
 loop-i-preserved c = let inv = c.loop-i.invariant in (

@@ -1,13 +1,8 @@
 -- `reserve::sweep::pass` meets its contract. The loop's invariant: the rows so far have had their turn.
 use Prim.Native.Nat.{◌-◌, ◌≤◌}
-use mathlib.Core.Path.{◌≡◌, refl}
-use native.Mathlib.Omega.{arith}
-use lib.ListN.{length, length-set}
-use borrow.Author.Rules.{rules}
-use Rattle.table.proofs.Lists.{long}
-use Rattle.reserve.proofs.Reading.Ready.{few}
-use Rattle.reserve.proofs.Sweeping.Turn.{turn_start}
-use Rattle.reserve.proofs.Sweeping.Pass.{Turn, pass_step, pass_end}
+use mathlib.Core.Path.{◌≡◌}
+use lib.ListN.{length}
+use Rattle.reserve.proofs.Pass.{Turn}
 use Rattle.reserve.proofs.sweep.pass.Given as goal
 
 abbrev pub invariant-loop-i : goal.invariant-loop-i

@@ -1,6 +1,5 @@
 -- `reserve::sweep::spent` meets its contract.
 use native.Mathlib.Omega.{arith}
-use borrow.Author.Rules.{rules}
 use borrow.Author.Tests.{eq-eqb, ne_eqb}
 use Rattle.reserve.proofs.sweep.spent.Goals as goal
 

@@ -1,6 +1,5 @@
 -- `reserve::sweep::tight_row` meets its contract.
-use borrow.Author.Rules.{rules}
-use Rattle.reserve.proofs.Sweeping.Sweeps.{tight_fresh}
+use Rattle.reserve.proofs.Sweeps.{tight_fresh}
 use Rattle.reserve.proofs.sweep.tight_row.Goals as goal
 
 pub returns : goal.returns

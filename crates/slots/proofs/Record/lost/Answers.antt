@@ -1,7 +1,6 @@
 -- `slots::Record::lost` meets its contract.
-use borrow.Author.Rules.{rules}
-use Rattle.slots.proofs.Cases.Admittance.{admitted_steady}
-use Rattle.slots.proofs.Cases.LostAnswers.{lost_refused}
+use Rattle.slots.proofs.Admittance.{admitted_steady}
+use Rattle.slots.proofs.LostAnswers.{lost_refused}
 use Rattle.slots.proofs.Record.lost.Goals as goal
 
 pub lost_admitted-requires : goal.lost_admitted-requires

@@ -1,7 +1,6 @@
 -- `slots::Record::run` meets its contract.
-use borrow.Author.Rules.{rules}
-use Rattle.slots.proofs.Cases.Admittance.{admitted_steady}
-use Rattle.slots.proofs.Cases.AnswerCases.{ran_refused, log_refused, buffer_refused}
+use Rattle.slots.proofs.Admittance.{admitted_steady}
+use Rattle.slots.proofs.AnswerCases.{ran_refused, log_refused, buffer_refused}
 use Rattle.slots.proofs.Record.run.Goals as goal
 
 pub run_admitted-requires : goal.run_admitted-requires

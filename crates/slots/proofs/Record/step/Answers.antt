@@ -1,7 +1,6 @@
 -- `slots::Record::step` meets its contract.
-use borrow.Author.Rules.{rules}
-use Rattle.slots.proofs.Cases.Admittance.{admitted_steady, admitted_held}
-use Rattle.slots.proofs.Cases.AnswerCases.{stepped_none, stepped_refused}
+use Rattle.slots.proofs.Admittance.{admitted_steady, admitted_held}
+use Rattle.slots.proofs.AnswerCases.{stepped_none, stepped_refused}
 use Rattle.slots.proofs.Record.step.Goals as goal
 
 pub settle-requires : goal.settle-requires

@@ -1,7 +1,6 @@
 -- `slots::Record::waiting` meets its contract.
-use borrow.Author.Rules.{rules}
 use Rattle.table.proofs.Lists.{long}
-use Rattle.slots.proofs.Cases.AnswerCases.{answer_few, awaiting_none, awaiting_refused}
+use Rattle.slots.proofs.AnswerCases.{answer_few, awaiting_none, awaiting_refused}
 use Rattle.slots.proofs.Record.waiting.Goals as goal
 
 pub awaited_rows-waiting-requires : goal.awaited_rows-waiting-requires

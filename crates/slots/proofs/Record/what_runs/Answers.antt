@@ -1,7 +1,6 @@
 -- `slots::Record::what_runs` meets its contract.
-use borrow.Author.Rules.{rules}
 use Rattle.table.proofs.Lists.{long}
-use Rattle.slots.proofs.Cases.AnswerCases.{answer_few, answer_holder, asked_none, asked_refused}
+use Rattle.slots.proofs.AnswerCases.{answer_few, answer_holder, asked_none, asked_refused}
 use Rattle.slots.proofs.Record.what_runs.Goals as goal
 
 pub awaited_rows-waiting-requires : goal.awaited_rows-waiting-requires

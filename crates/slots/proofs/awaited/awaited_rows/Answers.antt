@@ -1,6 +1,5 @@
 -- `slots::awaited::awaited_rows` meets its contract.
-use borrow.Author.Rules.{rules}
-use Rattle.slots.proofs.Places.SetLaws.{ones_fit, members_are}
+use Rattle.slots.proofs.SetLaws.{ones_fit, members_are}
 use Rattle.slots.proofs.awaited.awaited_rows.Goals as goal
 
 pub overflow_cast-count : goal.overflow_cast-count

@@ -1,6 +1,5 @@
 -- `slots::awaited::joined` meets its contract.
-use borrow.Author.Rules.{rules}
-use Rattle.slots.proofs.Places.SetLaws.{joined_room}
+use Rattle.slots.proofs.SetLaws.{joined_room}
 use Rattle.slots.proofs.awaited.joined.Goals as goal
 
 pub overflow_add-result : goal.overflow_add-result

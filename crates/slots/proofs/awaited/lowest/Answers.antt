@@ -1,5 +1,5 @@
 -- `slots::awaited::lowest` meets its contract.
-use Rattle.slots.proofs.Places.SetLaws.{zeros_fit, row_fits, low_empty, low_some}
+use Rattle.slots.proofs.SetLaws.{zeros_fit, row_fits, low_empty, low_some}
 use Rattle.slots.proofs.awaited.lowest.Goals as goal
 
 pub overflow_cast-result : goal.overflow_cast-result

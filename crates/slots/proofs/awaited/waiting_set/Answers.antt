@@ -1,6 +1,5 @@
 -- `slots::awaited::waiting_set` meets its contract.
-use borrow.Author.Rules.{rules}
-use Rattle.slots.proofs.Places.SetLaws.{Built, built_start, built_room, built_step, built_end}
+use Rattle.slots.proofs.SetLaws.{built_start, built_room, built_step, built_end}
 use Rattle.slots.proofs.awaited.waiting_set.Goals as goal
 
 pub loop-i-init : goal.loop-i-init

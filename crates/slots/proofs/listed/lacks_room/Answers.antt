@@ -1,5 +1,5 @@
 -- `slots::listed::lacks_room` meets its contract.
-use Rattle.slots.proofs.Cases.AnswerCases.{no_log, log_first}
+use Rattle.slots.proofs.AnswerCases.{no_log, log_first}
 use Rattle.slots.proofs.listed.lacks_room.Goals as goal
 
 pub returns-then-log-reports : goal.returns-then-log-reports

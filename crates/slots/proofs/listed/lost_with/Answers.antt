@@ -1,6 +1,5 @@
 -- `slots::listed::lost_with` meets its contract.
-use borrow.Author.Rules.{rules}
-use Rattle.slots.proofs.Cases.LostAnswers.{lost_all, lost_none}
+use Rattle.slots.proofs.LostAnswers.{lost_all, lost_none}
 use Rattle.slots.proofs.listed.lost_with.Goals as goal
 
 pub returns-in-None : goal.returns-in-None

@@ -1,6 +1,5 @@
 -- `slots::listed::put` meets its contract.
-use borrow.Author.Rules.{rules}
-use Rattle.slots.proofs.Stretch.RunLoop.{put_past}
+use Rattle.slots.proofs.RunLoop.{put_past}
 use Rattle.slots.proofs.listed.put.Goals as goal
 
 pub returns-else-i-log : goal.returns-else-i-log

@@ -1,13 +1,9 @@
 -- `slots::listed::run_stretches` meets its contract.
 use Prim.Native.Nat.{◌-◌}
-use native.Mathlib.Omega.{arith}
-use borrow.Author.Rules.{rules}
 use lib.ListN.{length}
-use Rattle.table.proofs.Lists.{long}
-use Rattle.table.proofs.Windows.{stretch_within}
-use Rattle.slots.proofs.Stretch.Renewals.{Renewal, renewal_place, renewal_room, renewal_step}
-use Rattle.slots.proofs.Stretch.Stretches.{Stretching, stretch_report, stretch_byte, stretch_holder, stretch_lowest, stretch_place, stretch_member, stretch_lost, stretch_clock, stretch_less, stretching_step}
-use Rattle.slots.proofs.Stretch.KeptRun.{Coursing, coursing_start, coursing_ahead, coursing_some, stretch_begins, course_log, course_buffer, course_kept, course_ends, course_lost, opening_begins, stale_steady, stale_room, stale_buffer, stretch_on, coursing_step, stop_log, stop_buffer, stop_kept, stop_answer, stop_lost, come_ran, come_lost, come_kept}
+use Rattle.slots.proofs.Renewals.{Renewal}
+use Rattle.slots.proofs.Stretches.{Stretching}
+use Rattle.slots.proofs.KeptRun.{Coursing}
 use Rattle.slots.proofs.listed.run_stretches.Given as goal
 
 abbrev pub invariant-loop-i-2 : goal.invariant-loop-i-2

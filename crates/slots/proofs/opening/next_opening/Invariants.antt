@@ -1,8 +1,6 @@
 -- `slots::opening::next_opening` meets its contract.
 use Prim.Native.Nat.{◌-◌}
-use borrow.Author.Rules.{rules}
-use Rattle.table.proofs.Lists.{long}
-use Rattle.slots.proofs.Stretch.Openings.{Opening, opening_start, opening_step, opening_end}
+use Rattle.slots.proofs.Openings.{Opening}
 use Rattle.slots.proofs.opening.next_opening.Given as goal
 
 abbrev pub invariant-loop-i : goal.invariant-loop-i

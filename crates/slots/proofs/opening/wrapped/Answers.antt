@@ -1,5 +1,5 @@
 -- `slots::opening::wrapped` meets its contract.
-use Rattle.slots.proofs.Cases.TurnCases.{wraps, goes}
+use Rattle.slots.proofs.TurnCases.{wraps, goes}
 use Rattle.slots.proofs.opening.wrapped.Goals as goal
 
 pub returns-then-clock-cycle : goal.returns-then-clock-cycle

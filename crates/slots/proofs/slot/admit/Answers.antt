@@ -1,6 +1,5 @@
 -- `slots::slot::admit` meets its contract.
-use borrow.Author.Rules.{rules}
-use Rattle.slots.proofs.Cases.Admittance.{admit_refused, admit_few, admit_sound, admit_not}
+use Rattle.slots.proofs.Admittance.{admit_refused, admit_few, admit_sound, admit_not}
 use Rattle.slots.proofs.slot.admit.Goals as goal
 
 pub all_fit-fit-requires : goal.all_fit-fit-requires

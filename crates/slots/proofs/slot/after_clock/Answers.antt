@@ -1,13 +1,14 @@
 -- `slots::slot::after_clock` meets its contract.
-use Prim.Native.Nat.{◌-◌}
-use borrow.Author.Rules.{rules}
 use Rattle.table.proofs.Lists.{long}
-use Rattle.reserve.proofs.Reading.Ready.{few}
-use Rattle.slots.proofs.Places.EntryLoops.{Renewing, renewing_start, renewing_step, renewing_end}
+use Rattle.reserve.proofs.Ready.{few, period_some}
+use Rattle.slots.proofs.EntryLoops.{renewing_start, renewing_step, renewing_end}
 use Rattle.slots.proofs.slot.after_clock.Goals as goal
 
 pub loop-i-init : goal.loop-i-init
 loop-i-init c = search (renewing_start, few)
+
+pub come-requires : goal.come-requires
+come-requires c = search (period_some, long)
 
 pub loop-i-preserved : goal.loop-i-preserved
 loop-i-preserved c = search (renewing_step)

@@ -1,8 +1,6 @@
 -- `slots::slot::all_fit` meets its contract.
-use Prim.Native.Nat.{◌-◌}
-use borrow.Author.Rules.{rules}
 use Rattle.table.proofs.Lists.{long}
-use Rattle.slots.proofs.Places.EntryLoops.{Fitting, fitting_start, fitting_step, fitting_not, fitting_end}
+use Rattle.slots.proofs.EntryLoops.{fitting_start, fitting_step, fitting_not, fitting_end}
 use Rattle.slots.proofs.slot.all_fit.Goals as goal
 
 pub loop-i-init : goal.loop-i-init

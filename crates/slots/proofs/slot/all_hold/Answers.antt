@@ -1,5 +1,5 @@
 -- `slots::slot::all_hold` meets its contract.
-use Rattle.slots.proofs.Cases.SlotCases.{holds_all, holds_unfit, holds_late}
+use Rattle.slots.proofs.SlotCases.{holds_all, holds_unfit, holds_late}
 use Rattle.slots.proofs.slot.all_hold.Goals as goal
 
 pub returns-then-fit : goal.returns-then-fit

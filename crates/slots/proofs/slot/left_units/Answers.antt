@@ -1,7 +1,5 @@
 -- `slots::slot::left_units` meets its contract.
-use Prim.Native.Nat.{◌-◌}
-use borrow.Author.Rules.{rules}
-use Rattle.slots.proofs.Places.EntryLoops.{Left, left_start, left_step, left_end}
+use Rattle.slots.proofs.EntryLoops.{left_start, left_step, left_end}
 use Rattle.slots.proofs.slot.left_units.Goals as goal
 
 pub loop-i-init : goal.loop-i-init

@@ -1,7 +1,6 @@
 -- `slots::slot::left_units` meets its contract.
 use Prim.Native.Nat.{◌-◌}
-use borrow.Author.Rules.{rules}
-use Rattle.slots.proofs.Places.EntryLoops.{Left, left_start, left_step, left_end}
+use Rattle.slots.proofs.EntryLoops.{Left}
 use Rattle.slots.proofs.slot.left_units.Given as goal
 
 abbrev pub invariant-loop-i : goal.invariant-loop-i

@@ -1,6 +1,5 @@
 -- `slots::slot::next_clock` meets its contract.
-use borrow.Author.Rules.{rules}
-use Rattle.slots.proofs.Cases.SlotCases.{clock_wraps, clock_rises}
+use Rattle.slots.proofs.SlotCases.{clock_wraps, clock_rises}
 use Rattle.slots.proofs.slot.next_clock.Goals as goal
 
 pub returns-then-c-cycle : goal.returns-then-c-cycle

@@ -1,7 +1,6 @@
 -- `slots::slot::settle` meets its contract.
-use borrow.Author.Rules.{rules}
 use Rattle.table.proofs.Lists.{long}
-use Rattle.slots.proofs.Cases.Settled.{stands_ready, stands_few, stands_ticks, stands_holder, stands_workable, settled_none, settled_refused}
+use Rattle.slots.proofs.Settled.{stands_ready, stands_few, stands_ticks, stands_holder, stands_workable, settled_none, settled_refused}
 use Rattle.slots.proofs.slot.settle.Goals as goal
 
 pub awaited_rows-waiting-requires : goal.awaited_rows-waiting-requires

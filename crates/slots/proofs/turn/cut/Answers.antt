@@ -1,5 +1,5 @@
 -- `slots::turn::cut` meets its contract.
-use Rattle.slots.proofs.Cases.TurnCases.{cut_not, cut_here}
+use Rattle.slots.proofs.TurnCases.{cut_not, cut_here}
 use Rattle.slots.proofs.turn.cut.Goals as goal
 
 pub returns-then-finished-eq0 : goal.returns-then-finished-eq0

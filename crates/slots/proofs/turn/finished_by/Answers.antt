@@ -1,5 +1,5 @@
 -- `slots::turn::finished_by` meets its contract.
-use Rattle.slots.proofs.Cases.TurnCases.{done_row, none_done}
+use Rattle.slots.proofs.TurnCases.{done_row, none_done}
 use Rattle.slots.proofs.turn.finished_by.Goals as goal
 
 pub returns-then-report-eq1 : goal.returns-then-report-eq1

@@ -1,13 +1,15 @@
 -- `slots::turn::lost_by` meets its contract.
-use borrow.Author.Rules.{rules}
-use Rattle.slots.proofs.Cases.TurnCases.{lost_idle, lost_primary, lost_alternate}
+use Rattle.slots.proofs.TurnCases.{lost_primary, lost_waiting, lost_failed, lost_done}
 use Rattle.slots.proofs.turn.lost_by.Goals as goal
 
-pub returns-in-Idle : goal.returns-in-Idle
-returns-in-Idle c = search (lost_idle)
+pub returns-then-ran-le16 : goal.returns-then-ran-le16
+returns-then-ran-le16 c = search (lost_primary)
 
-pub returns-in-Primary : goal.returns-in-Primary
-returns-in-Primary c = search (lost_primary)
+pub returns-in-Waiting : goal.returns-in-Waiting
+returns-in-Waiting c = search (lost_waiting)
 
-pub returns-in-Alternate : goal.returns-in-Alternate
-returns-in-Alternate c = search (lost_alternate)
+pub returns-in-Failed : goal.returns-in-Failed
+returns-in-Failed c = search (lost_failed)
+
+pub returns-in-Done : goal.returns-in-Done
+returns-in-Done c = search (lost_done)

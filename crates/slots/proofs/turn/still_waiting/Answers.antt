@@ -1,6 +1,6 @@
 -- `slots::turn::still_waiting` meets its contract.
 use borrow.Author.Rules.{rules}
-use Rattle.slots.proofs.Cases.TurnCases.{set_member, set_loses, set_keeps}
+use Rattle.slots.proofs.TurnCases.{set_member, set_loses, set_keeps}
 use Rattle.slots.proofs.turn.still_waiting.Goals as goal
 
 pub without-requires : goal.without-requires

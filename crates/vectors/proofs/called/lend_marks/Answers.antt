@@ -1,7 +1,7 @@
 -- `vectors::called::lend_marks` meets its contract.
 use lib.Seq.{length-take-le}
 use borrow.Author.Rules.{rules}
-use Rattle.bagreport.proofs.Answers.ShareNumbers.{report_numbers}
+use Rattle.bagreport.proofs.ShareNumbers.{report_numbers}
 use Rattle.vectors.proofs.called.lend_marks.Goals as goal
 
 pub slice_bounds-report-end : goal.slice_bounds-report-end

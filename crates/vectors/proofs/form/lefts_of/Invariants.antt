@@ -1,6 +1,5 @@
 -- `vectors::form::lefts_of` meets its contract.
 use Prim.Native.Nat.{◌-◌, ◌≤◌}
-use borrow.Author.Rules.{rules}
 use Rattle.vectors.proofs.form.lefts_of.Given as goal
 
 abbrev pub invariant-loop-i : goal.invariant-loop-i

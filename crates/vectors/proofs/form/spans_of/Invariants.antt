@@ -1,6 +1,5 @@
 -- `vectors::form::spans_of` meets its contract.
 use Prim.Native.Nat.{◌-◌}
-use borrow.Author.Rules.{rules}
 use Rattle.vectors.proofs.form.spans_of.Given as goal
 
 abbrev pub invariant-loop-i : goal.invariant-loop-i

@@ -1,6 +1,5 @@
 -- `vectors::form::table_of` meets its contract.
 use Prim.Native.Nat.{◌-◌, ◌≤◌}
-use borrow.Author.Rules.{rules}
 use Rattle.vectors.proofs.form.table_of.Given as goal
 
 abbrev pub invariant-loop-i : goal.invariant-loop-i

@@ -1,6 +1,5 @@
 -- `vectors::print::places` meets its contract.
 use Prim.Native.Nat.{◌-◌}
-use borrow.Author.Rules.{rules}
 use Rattle.vectors.proofs.print.places.Given as goal
 
 abbrev pub invariant-loop-i : goal.invariant-loop-i

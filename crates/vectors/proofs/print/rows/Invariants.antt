@@ -1,6 +1,5 @@
 -- `vectors::print::rows` meets its contract.
 use Prim.Native.Nat.{◌-◌, ◌≤◌}
-use borrow.Author.Rules.{rules}
 use Rattle.vectors.proofs.print.rows.Given as goal
 
 abbrev pub invariant-loop-i : goal.invariant-loop-i

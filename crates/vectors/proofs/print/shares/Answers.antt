@@ -1,5 +1,4 @@
 -- `vectors::print::shares` meets its contract.
-use Prim.Native.Nat.{◌-◌, ◌≤◌}
 use borrow.Author.Rules.{rules}
 use Rattle.vectors.proofs.print.shares.Goals as goal
 

@@ -1,6 +1,5 @@
 -- `vectors::print::shares` meets its contract.
 use Prim.Native.Nat.{◌-◌, ◌≤◌}
-use borrow.Author.Rules.{rules}
 use Rattle.vectors.proofs.print.shares.Given as goal
 
 abbrev pub invariant-loop-i : goal.invariant-loop-i

@@ -1,4 +1,0 @@
-pub mod ShareNumbers
-pub mod ExactlyWhen
-pub mod ReportCalls
-pub mod Answered

@@ -1,3 +1,0 @@
-pub mod BagsMarked
-pub mod Marking
-pub mod SpanOrder

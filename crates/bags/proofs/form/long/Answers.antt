@@ -1,0 +1,6 @@
+-- `bags::form::long` meets its contract.
+use Rattle.bags.proofs.Orders.{long_by}
+use Rattle.bags.proofs.form.long.Goals as goal
+
+pub returns : goal.returns
+returns c = search (long_by)

@@ -1,9 +1,0 @@
-pub mod WorkBytes
-pub mod ReportCases
-pub mod Acts
-pub mod JobFacts
-pub mod JobCases
-pub mod JobStory
-pub mod Sums
-pub mod LostJobs
-pub mod Unique

@@ -1,4 +1,0 @@
-pub mod FirstSlots
-pub mod Scanning
-pub mod JobWindows
-pub mod JobsFit

@@ -1,4 +1,0 @@
-pub mod Tables
-pub mod FreshClaims
-pub mod Ready
-pub mod Verdict

@@ -1,9 +1,0 @@
-pub mod Facts
-pub mod Monotone
-pub mod Unit
-pub mod Kept
-pub mod First
-pub mod Holders
-pub mod Lacks
-pub mod Words
-pub mod Alike

@@ -1,4 +1,0 @@
-pub mod Claims
-pub mod Enough
-pub mod Advance
-pub mod Moves

@@ -1,4 +1,0 @@
-pub mod Tests
-pub mod Counting
-pub mod FirstRow
-pub mod Every

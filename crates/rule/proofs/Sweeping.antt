@@ -1,3 +1,0 @@
-pub mod Remainders
-pub mod Sweep
-pub mod HolderList

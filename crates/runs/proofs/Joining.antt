@@ -1,2 +1,0 @@
-pub mod JoinedLost
-pub mod Joined

@@ -1,2 +1,0 @@
-pub mod FreshReservations
-pub mod RecordJobs

@@ -1,3 +1,0 @@
-pub mod ExactlyWhen
-pub mod ListsWhen
-pub mod HandedBack

@@ -1,4 +1,0 @@
-pub mod Passages
-pub mod RunFacts
-pub mod RunCourse
-pub mod JoinedRuns

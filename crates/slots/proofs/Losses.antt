@@ -1,3 +1,0 @@
-pub mod LostRows
-pub mod LostBound
-pub mod LostSum

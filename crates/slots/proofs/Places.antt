@@ -1,4 +1,0 @@
-pub mod Entries
-pub mod EntryLoops
-pub mod SetLaws
-pub mod UnitMoves

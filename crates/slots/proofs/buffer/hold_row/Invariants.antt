@@ -1,0 +1,10 @@
+-- `slots::buffer::hold_row` meets its contract. The loop's invariant: the jobs with windows before `first` have reserved.
+use Prim.Native.Nat.{◌-◌}
+use Rattle.slots.proofs.HoldingRow.{HoldingRow}
+use Rattle.slots.proofs.buffer.hold_row.Given as goal
+
+abbrev pub invariant-loop-first : goal.invariant-loop-first
+invariant-loop-first l = HoldingRow l.r l.row l.clock l.units l.until l.initial.out l.out l.left l.first l.end
+
+abbrev pub decreases-loop-first : goal.decreases-loop-first
+decreases-loop-first l = l.until - l.first

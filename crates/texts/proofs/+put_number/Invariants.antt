@@ -1,5 +1,0 @@
--- `texts::put_number` calls itself with the number's tenth part, and the measure is the number.
-use Rattle.texts.proofs.+put_number.Given as goal
-
-abbrev pub decreases-put_number : goal.decreases-put_number
-decreases-put_number l = l.n

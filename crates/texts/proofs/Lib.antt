@@ -1,4 +1,0 @@
-pub mod Bytes
-pub mod Laying
-pub mod Decimals
-pub mod Unique

@@ -1,3 +1,0 @@
-pub mod BigEndian
-pub mod Texts
-pub mod Laying
