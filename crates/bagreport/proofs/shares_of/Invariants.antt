@@ -1,4 +1,4 @@
--- `bagreport::shares_of` meets its contract.
+-- `bagreport::shares_of`: what its loop keeps, and what falls at each turn.
 use Prim.Native.Nat.{◌-◌}
 use Rattle.bagreport.proofs.SharesFilled.{Filled}
 use Rattle.bagreport.proofs.shares_of.Given as goal

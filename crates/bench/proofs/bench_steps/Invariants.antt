@@ -1,4 +1,4 @@
--- `bench::bench_steps` meets its contract.
+-- `bench::bench_steps`: what its loop keeps, and what falls at each turn.
 use Prim.Native.Nat.{◌-◌}
 use lib.ListN.{length}
 use Rattle.bench.proofs.OneByOne.{Going}

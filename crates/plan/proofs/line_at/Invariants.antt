@@ -1,4 +1,4 @@
--- `plan::line_at` meets its contract.
+-- `plan::line_at`: what its loop keeps, and what falls at each turn.
 use Prim.Native.Nat.{◌-◌}
 use Rattle.plan.proofs.PrintedLines.{Looking}
 use Rattle.plan.proofs.line_at.Given as goal

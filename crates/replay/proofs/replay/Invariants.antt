@@ -1,4 +1,4 @@
--- `replay::replay` meets its contract.
+-- `replay::replay`: what its loop keeps, and what falls at each turn.
 use Rattle.replay.proofs.Replaying.{Replaying}
 use Rattle.replay.proofs.replay.Given as goal
 

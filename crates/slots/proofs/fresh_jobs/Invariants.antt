@@ -1,4 +1,4 @@
--- `slots::fresh_jobs` meets its contract.
+-- `slots::fresh_jobs`: what its loop keeps, and what falls at each turn.
 use Prim.Native.Nat.{◌-◌}
 use Rattle.slots.proofs.EntryLoops.{Freshening}
 use Rattle.slots.proofs.fresh_jobs.Given as goal

@@ -1,4 +1,4 @@
--- `table::gcd` is Euclid's rule. It calls itself with the second number falling, which is the measure.
+-- `table::gcd` is Euclid's rule: each of its returns is one of the two clauses.
 use mathlib.Core.Path.{sym, ap, ◌∙◌}
 use Prim.Native.Nat.{◌<◌}
 use native.Mathlib.Omega.{arith}

@@ -1,4 +1,4 @@
--- `table::gcd` is Euclid's rule. It calls itself with the second number falling, which is the measure.
+-- `table::gcd` calls itself with the second number falling, which is the measure.
 use Rattle.table.proofs.+gcd.Given as goal
 
 abbrev pub decreases-gcd : goal.decreases-gcd

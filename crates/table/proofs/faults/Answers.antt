@@ -1,4 +1,4 @@
--- `table::faults` meets its contract. The loop's invariant: the faults of the table are those of the rows from i on. The measure is the number of rows left.
+-- `table::faults` meets its contract.
 use mathlib.Core.Path.{refl}
 use native.Mathlib.Omega.{arith}
 use Rattle.table.proofs.Lists.{long}

@@ -1,4 +1,4 @@
--- `table::faults` meets its contract. The loop's invariant: the faults of the table are those of the rows from i on. The measure is the number of rows left.
+-- `table::faults`. The loop's invariant: the faults of the table are those of the rows from i on. The measure is the number of rows left.
 use mathlib.Core.Path.{◌≡◌}
 use Prim.Native.Nat.{◌+◌, ◌-◌, ◌≤◌}
 use lib.ListN.{drop}

@@ -1,4 +1,4 @@
--- `table::fold` meets its contract. The loop's invariant: capped, the cycle is the fold from c of the rows from i on. The measure is the number of rows left.
+-- `table::fold` meets its contract.
 use mathlib.Core.Path.{refl}
 use native.Mathlib.Omega.{arith}
 use Rattle.table.specs.Rows.{cycle_of}

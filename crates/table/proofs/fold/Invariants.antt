@@ -1,4 +1,4 @@
--- `table::fold` meets its contract. The loop's invariant: capped, the cycle is the fold from c of the rows from i on. The measure is the number of rows left.
+-- `table::fold`. The loop's invariant: capped, the cycle is the fold from c of the rows from i on. The measure is the number of rows left.
 use mathlib.Core.Path.{◌≡◌}
 use Prim.Native.Nat.{◌-◌, ◌≤◌}
 use lib.ListN.{drop}

@@ -1,4 +1,4 @@
--- `tablefile::put_rows` meets its contract.
+-- `tablefile::put_rows`: what its loop keeps, and what falls at each turn.
 use Prim.Native.Nat.{◌-◌}
 use Rattle.tablefile.proofs.WriteCases.{Put}
 use Rattle.tablefile.proofs.put_rows.Given as goal

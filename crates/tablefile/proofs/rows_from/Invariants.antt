@@ -1,4 +1,4 @@
--- `tablefile::rows_from` meets its contract.
+-- `tablefile::rows_from`: what its loop keeps, and what falls at each turn.
 use Prim.Native.Nat.{◌-◌}
 use Rattle.tablefile.proofs.ReadCases.{Read}
 use Rattle.tablefile.proofs.rows_from.Given as goal

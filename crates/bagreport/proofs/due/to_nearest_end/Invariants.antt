@@ -1,4 +1,4 @@
--- `bagreport::due::to_nearest_end` meets its contract.
+-- `bagreport::due::to_nearest_end`: what its loop keeps, and what falls at each turn.
 use Prim.Native.Nat.{◌-◌}
 use Rattle.bagreport.proofs.NearestEnd.{Nearing}
 use Rattle.bagreport.proofs.due.to_nearest_end.Given as goal

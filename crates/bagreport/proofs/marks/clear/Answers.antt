@@ -1,4 +1,4 @@
--- `bagreport::marks::clear` meets its contract. The loop's invariant: the bytes so far are 0, and the others are as they were.
+-- `bagreport::marks::clear` meets its contract.
 use Rattle.bagreport.proofs.Marking.{clearing_start, clearing_size, clearing_place, clearing_step, clearing_end}
 use Rattle.bagreport.proofs.marks.clear.Goals as goal
 

@@ -1,4 +1,4 @@
--- `bagreport::marks::clear` meets its contract. The loop's invariant: the bytes so far are 0, and the others are as they were.
+-- `bagreport::marks::clear`. The loop's invariant: the bytes so far are 0, and the others are as they were.
 use Prim.Native.Nat.{◌-◌}
 use Rattle.bagreport.proofs.Marking.{Clearing}
 use Rattle.bagreport.proofs.marks.clear.Given as goal

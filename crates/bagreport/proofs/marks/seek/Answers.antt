@@ -1,4 +1,4 @@
--- `bagreport::marks::seek` meets its contract. The loop's invariant: the bags before this one end before the slot.
+-- `bagreport::marks::seek` meets its contract.
 use native.Mathlib.Omega.{arith}
 use Rattle.bagreport.proofs.Marking.{seeking_start, seeking_place, seeking_found, seeking_step, seeking_end}
 use Rattle.bagreport.proofs.marks.seek.Goals as goal

@@ -1,4 +1,4 @@
--- `bagreport::marks::seek` meets its contract. The loop's invariant: the bags before this one end before the slot.
+-- `bagreport::marks::seek`. The loop's invariant: the bags before this one end before the slot.
 use Prim.Native.Nat.{◌-◌}
 use Rattle.bagreport.proofs.Marking.{Seeking}
 use Rattle.bagreport.proofs.marks.seek.Given as goal

@@ -25,27 +25,20 @@ loop-at-preserved c = let inv = c.loop-at.invariant in
     passed_step inv (ran.next c.in-None.is) told.tale told.bags told.past (search rules) (search rules)
 
 pub returns-in_default-clause-refusal : goal.returns-in_default-clause-refusal
-returns-in_default-clause-refusal c = let inv = c.loop-at.invariant in
-    let ran = c.run_chunk-ran.ensures in
+returns-in_default-clause-refusal c = let ran = c.run_chunk-ran.ensures in
     let stop = c.in_default.not-None in
     stopped_refusal _ stop ran.stopped
 
 pub returns-in_default-clause-counts : goal.returns-in_default-clause-counts
-returns-in_default-clause-counts c = let inv = c.loop-at.invariant in
-    let ran = c.run_chunk-ran.ensures in
-    let stop = c.in_default.not-None in
+returns-in_default-clause-counts c = let stop = c.in_default.not-None in
     stopped_never _ stop
 
 pub returns-in_default-clause-bags : goal.returns-in_default-clause-bags
-returns-in_default-clause-bags c = let inv = c.loop-at.invariant in
-    let ran = c.run_chunk-ran.ensures in
-    let stop = c.in_default.not-None in
+returns-in_default-clause-bags c = let stop = c.in_default.not-None in
     stopped_never _ stop
 
 pub returns-in_default-clause-past : goal.returns-in_default-clause-past
 returns-in_default-clause-past c = let inv = c.loop-at.invariant in
-    let ran = c.run_chunk-ran.ensures in
-    let stop = c.in_default.not-None in
     inv.past
 
 pub returns-clause-refusal : goal.returns-clause-refusal
@@ -65,5 +58,4 @@ returns-clause-bags c = let inv = c.loop-at.invariant in
 
 pub returns-clause-past : goal.returns-clause-past
 returns-clause-past c = let inv = c.loop-at.invariant in
-    let left = c.loop-at-test.false in
     inv.past

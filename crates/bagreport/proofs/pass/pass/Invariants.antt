@@ -1,4 +1,4 @@
--- `bagreport::pass::pass` meets its contract.
+-- `bagreport::pass::pass`: what its loop keeps, and what falls at each turn.
 use Prim.Native.Nat.{◌-◌}
 use lib.ListN.{length}
 use Rattle.bagreport.proofs.Passing.{PassedTo}

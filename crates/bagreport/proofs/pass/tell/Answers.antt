@@ -1,5 +1,4 @@
--- `bagreport::pass::tell` meets its contract. The loops' invariants: the slots before the i-th have been told; of a stretch's slots, those before the i-th; at its end, the rows before
--- the k-th have been closed.
+-- `bagreport::pass::tell` meets its contract.
 use native.Mathlib.Omega.{arith}
 use borrow.Author.Rules.{rules}
 use Rattle.table.proofs.Lists.{long}

@@ -1,4 +1,4 @@
--- `bagreport::pass::tell` meets its contract. The loops' invariants: the slots before the i-th have been told; of a stretch's slots, those before the i-th; at its end, the rows before
+-- `bagreport::pass::tell`. The loops' invariants: the slots before the i-th have been told; of a stretch's slots, those before the i-th; at its end, the rows before
 -- the k-th have been closed.
 use Prim.Native.Nat.{◌-◌}
 use Rattle.bagreport.proofs.SlotsTold.{Along}

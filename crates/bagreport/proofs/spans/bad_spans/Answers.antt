@@ -1,4 +1,4 @@
--- `bagreport::spans::bad_spans` meets its contract. The loop's invariant: what is left of the list decides.
+-- `bagreport::spans::bad_spans` meets its contract.
 use native.Mathlib.Omega.{arith}
 use Rattle.bagreport.proofs.SpanOrder.{reading_start, reading_bad, reading_step, reading_end}
 use Rattle.bagreport.proofs.spans.bad_spans.Goals as goal

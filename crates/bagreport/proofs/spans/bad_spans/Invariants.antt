@@ -1,4 +1,4 @@
--- `bagreport::spans::bad_spans` meets its contract. The loop's invariant: what is left of the list decides.
+-- `bagreport::spans::bad_spans`. The loop's invariant: what is left of the list decides.
 use Prim.Native.Nat.{◌-◌}
 use Rattle.bagreport.proofs.SpanOrder.{Reading}
 use Rattle.bagreport.proofs.spans.bad_spans.Given as goal

@@ -1,4 +1,4 @@
--- `bags::form::fill_spans` meets its contract.
+-- `bags::form::fill_spans`: what its loop keeps, and what falls at each turn.
 use Prim.Native.Nat.{◌-◌}
 use Rattle.bags.proofs.Orders.{Filled}
 use Rattle.bags.proofs.form.fill_spans.Given as goal

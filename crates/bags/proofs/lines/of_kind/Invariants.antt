@@ -1,4 +1,4 @@
--- `bags::lines::of_kind` meets its contract.
+-- `bags::lines::of_kind`: what its loop keeps, and what falls at each turn.
 use Prim.Native.Nat.{◌-◌}
 use lib.ListN.{length}
 use Rattle.bags.proofs.Figures.{Counted}

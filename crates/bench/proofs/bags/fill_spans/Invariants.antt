@@ -1,4 +1,4 @@
--- `bench::bags::fill_spans` meets its contract.
+-- `bench::bags::fill_spans`: what its loop keeps, and what falls at each turn.
 use Prim.Native.Nat.{◌-◌}
 use Rattle.bench.proofs.EvenBags.{Filled}
 use Rattle.bench.proofs.bags.fill_spans.Given as goal

@@ -1,4 +1,4 @@
--- `replay::ending::put_rows` meets its contract.
+-- `replay::ending::put_rows`: what its loop keeps, and what falls at each turn.
 use Prim.Native.Nat.{◌-◌}
 use Rattle.replay.proofs.EndLines.{Rowed}
 use Rattle.replay.proofs.ending.put_rows.Given as goal

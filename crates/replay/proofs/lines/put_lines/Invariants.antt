@@ -1,4 +1,4 @@
--- `replay::lines::put_lines` meets its contract.
+-- `replay::lines::put_lines`: what its loop keeps, and what falls at each turn.
 use Prim.Native.Nat.{◌-◌}
 use lib.ListN.{length}
 use Rattle.replay.proofs.SlotLines.{Lined}

@@ -1,4 +1,4 @@
--- `replay::text::put_bytes` meets its contract.
+-- `replay::text::put_bytes`: what its loop keeps, and what falls at each turn.
 use Prim.Native.Nat.{◌-◌}
 use lib.ListN.{length}
 use Rattle.replay.proofs.Laying.{Copied}

@@ -1,4 +1,4 @@
--- `reserve::scan::count_jobs` meets its contract. The loop's invariant: the jobs of the rows so far are counted.
+-- `reserve::scan::count_jobs` meets its contract.
 use native.Mathlib.Omega.{arith}
 use Rattle.table.proofs.Lists.{long}
 use Rattle.reserve.proofs.Scanning.{jobs_few, count_start, count_step, count_end}

@@ -1,4 +1,4 @@
--- `reserve::scan::count_jobs` meets its contract. The loop's invariant: the jobs of the rows so far are counted.
+-- `reserve::scan::count_jobs`. The loop's invariant: the jobs of the rows so far are counted.
 use Prim.Native.Nat.{◌-◌}
 use Rattle.reserve.proofs.Scanning.{CountedTo}
 use Rattle.reserve.proofs.scan.count_jobs.Given as goal

@@ -1,4 +1,4 @@
--- `reserve::scan::first_held` meets its contract. The loop's invariant: the slots passed are not the row's.
+-- `reserve::scan::first_held` meets its contract.
 use Rattle.reserve.proofs.Scanning.{missed_start, missed_found, missed_more, missed_all}
 use Rattle.reserve.proofs.scan.first_held.Goals as goal
 

@@ -1,4 +1,4 @@
--- `reserve::scan::first_held` meets its contract. The loop's invariant: the slots passed are not the row's.
+-- `reserve::scan::first_held`. The loop's invariant: the slots passed are not the row's.
 use Prim.Native.Nat.{◌-◌}
 use Rattle.reserve.proofs.Scanning.{Missed}
 use Rattle.reserve.proofs.scan.first_held.Given as goal

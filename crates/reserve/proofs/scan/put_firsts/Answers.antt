@@ -1,4 +1,4 @@
--- `reserve::scan::put_firsts` meets its contract. The loop's invariant: the first slots of the rows so far are written, up to the place `at`.
+-- `reserve::scan::put_firsts` meets its contract.
 use native.Mathlib.Omega.{arith}
 use Rattle.table.proofs.Lists.{long}
 use Rattle.reserve.proofs.Scanning.{rows_room, rows_start, rows_step, rows_end}

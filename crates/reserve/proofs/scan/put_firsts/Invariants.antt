@@ -1,4 +1,4 @@
--- `reserve::scan::put_firsts` meets its contract. The loop's invariant: the first slots of the rows so far are written, up to the place `at`.
+-- `reserve::scan::put_firsts`. The loop's invariant: the first slots of the rows so far are written, up to the place `at`.
 use Prim.Native.Nat.{◌-◌}
 use Rattle.reserve.proofs.Scanning.{PutRows}
 use Rattle.reserve.proofs.scan.put_firsts.Given as goal

@@ -1,4 +1,4 @@
--- `reserve::scan::put_row` meets its contract. The loop's invariant: the first slots of the jobs so far are written.
+-- `reserve::scan::put_row` meets its contract.
 use native.Mathlib.Omega.{arith}
 use Rattle.reserve.proofs.Scanning.{jobs_start, jobs_step, jobs_end}
 use Rattle.reserve.proofs.scan.put_row.Goals as goal

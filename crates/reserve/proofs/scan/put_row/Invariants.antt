@@ -1,4 +1,4 @@
--- `reserve::scan::put_row` meets its contract. The loop's invariant: the first slots of the jobs so far are written.
+-- `reserve::scan::put_row`. The loop's invariant: the first slots of the jobs so far are written.
 use Prim.Native.Nat.{◌-◌}
 use Rattle.reserve.proofs.Scanning.{PutJobs}
 use Rattle.reserve.proofs.scan.put_row.Given as goal

@@ -1,4 +1,4 @@
--- `reserve::sweep::alternates` meets its contract. The loop's invariant: the alternates of the places so far are copied.
+-- `reserve::sweep::alternates` meets its contract.
 use mathlib.Core.Path.{refl}
 use borrow.Author.Rules.{rules}
 use Rattle.table.proofs.Lists.{long}

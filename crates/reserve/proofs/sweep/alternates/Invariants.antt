@@ -1,4 +1,4 @@
--- `reserve::sweep::alternates` meets its contract. The loop's invariant: the alternates of the places so far are copied.
+-- `reserve::sweep::alternates`. The loop's invariant: the alternates of the places so far are copied.
 use mathlib.Core.Path.{◌≡◌}
 use Prim.Native.Nat.{◌-◌}
 use lib.ListN.{length}

@@ -1,5 +1,4 @@
--- `reserve::sweep::down` meets its contract. The loop's invariant: the rests are ready for the next slot down, and the holder of the slot passed last and the lowest row
--- that is short so far are found.
+-- `reserve::sweep::down` meets its contract.
 use native.Mathlib.Omega.{arith}
 use Rattle.reserve.proofs.Down.{next_slot, next_turn, found_start, found_turn}
 use Rattle.reserve.proofs.Sweeps.{sweep_start, down_end}

@@ -1,4 +1,4 @@
--- `reserve::sweep::down` meets its contract. The loop's invariant: the rests are ready for the next slot down, and the holder of the slot passed last and the lowest row
+-- `reserve::sweep::down`. The loop's invariant: the rests are ready for the next slot down, and the holder of the slot passed last and the lowest row
 -- that is short so far are found.
 use Rattle.reserve.proofs.Sweeps.{Sweeping, Finding}
 use Rattle.reserve.proofs.sweep.down.Given as goal

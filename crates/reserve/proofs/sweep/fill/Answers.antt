@@ -1,4 +1,4 @@
--- `reserve::sweep::fill` meets its contract. The loop's invariant: the rests are ready for the next slot down, and the slots passed have their holders' bytes.
+-- `reserve::sweep::fill` meets its contract.
 use native.Mathlib.Omega.{arith}
 use Rattle.reserve.proofs.Down.{next_slot, next_turn, filled_start, filled_turn}
 use Rattle.reserve.proofs.Sweeps.{sweep_start, fill_end}

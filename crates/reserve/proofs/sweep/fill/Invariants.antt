@@ -1,4 +1,4 @@
--- `reserve::sweep::fill` meets its contract. The loop's invariant: the rests are ready for the next slot down, and the slots passed have their holders' bytes.
+-- `reserve::sweep::fill`. The loop's invariant: the rests are ready for the next slot down, and the slots passed have their holders' bytes.
 use Rattle.reserve.proofs.Sweeps.{Sweeping, Filling}
 use Rattle.reserve.proofs.sweep.fill.Given as goal
 

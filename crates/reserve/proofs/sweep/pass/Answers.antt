@@ -1,4 +1,4 @@
--- `reserve::sweep::pass` meets its contract. The loop's invariant: the rows so far have had their turn.
+-- `reserve::sweep::pass` meets its contract.
 use mathlib.Core.Path.{refl}
 use native.Mathlib.Omega.{arith}
 use lib.ListN.{length-set}

@@ -1,4 +1,4 @@
--- `reserve::sweep::pass` meets its contract. The loop's invariant: the rows so far have had their turn.
+-- `reserve::sweep::pass`. The loop's invariant: the rows so far have had their turn.
 use Prim.Native.Nat.{◌-◌, ◌≤◌}
 use mathlib.Core.Path.{◌≡◌}
 use lib.ListN.{length}

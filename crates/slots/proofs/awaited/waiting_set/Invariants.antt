@@ -1,4 +1,4 @@
--- `slots::awaited::waiting_set` meets its contract.
+-- `slots::awaited::waiting_set`: what its loop keeps, and what falls at each turn.
 use Rattle.slots.proofs.SetLaws.{Built}
 use Rattle.slots.proofs.awaited.waiting_set.Given as goal
 

@@ -1,4 +1,4 @@
--- `slots::buffer::clear` meets its contract. The loop's invariant: the slots so far are free.
+-- `slots::buffer::clear` meets its contract.
 use mathlib.Core.Path.{refl}
 use native.Mathlib.Omega.{arith}
 use Rattle.slots.proofs.Written.{written_start, written_up, written_end}

@@ -1,4 +1,4 @@
--- `slots::buffer::clear` meets its contract. The loop's invariant: the slots so far are free.
+-- `slots::buffer::clear`. The loop's invariant: the slots so far are free.
 use Prim.Native.Nat.{◌-◌, ◌≤◌}
 use Rattle.slots.specs.Buffer.{Written}
 use Rattle.slots.proofs.buffer.clear.Given as goal

@@ -1,4 +1,4 @@
--- `slots::buffer::give_up` meets its contract. The loop's invariant: in the slots so far only the rows above the place keep their bytes.
+-- `slots::buffer::give_up` meets its contract.
 use Rattle.slots.proofs.Refills.{giving_start, giving_place, giving_step, giving_end}
 use Rattle.slots.proofs.buffer.give_up.Goals as goal
 

@@ -1,4 +1,4 @@
--- `slots::buffer::give_up` meets its contract. The loop's invariant: in the slots so far only the rows above the place keep their bytes.
+-- `slots::buffer::give_up`. The loop's invariant: in the slots so far only the rows above the place keep their bytes.
 use Prim.Native.Nat.{◌-◌}
 use Rattle.slots.proofs.Refills.{Giving}
 use Rattle.slots.proofs.buffer.give_up.Given as goal

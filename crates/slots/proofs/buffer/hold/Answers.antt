@@ -1,4 +1,4 @@
--- `slots::buffer::hold` meets its contract. The loop's invariant: the slots passed are reserved or left, and what is left of the claim is known.
+-- `slots::buffer::hold` meets its contract.
 use Rattle.slots.proofs.Holding.{holding_start, holding_place, holding_step, holding_met, holding_end}
 use Rattle.slots.proofs.buffer.hold.Goals as goal
 

@@ -1,4 +1,4 @@
--- `slots::buffer::hold` meets its contract. The loop's invariant: the slots passed are reserved or left, and what is left of the claim is known.
+-- `slots::buffer::hold`. The loop's invariant: the slots passed are reserved or left, and what is left of the claim is known.
 use Rattle.slots.proofs.Holding.{Holding}
 use Rattle.slots.proofs.buffer.hold.Given as goal
 

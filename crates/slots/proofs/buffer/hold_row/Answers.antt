@@ -1,4 +1,4 @@
--- `slots::buffer::hold_row` meets its contract. The loop's invariant: the jobs with windows before `first` have reserved.
+-- `slots::buffer::hold_row` meets its contract.
 use Rattle.slots.proofs.HoldingRow.{able_period, able_start, row_start, row_fits, row_room, row_nearer, row_step, row_end}
 use Rattle.slots.proofs.buffer.hold_row.Goals as goal
 

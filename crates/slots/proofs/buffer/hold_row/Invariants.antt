@@ -1,4 +1,4 @@
--- `slots::buffer::hold_row` meets its contract. The loop's invariant: the jobs with windows before `first` have reserved.
+-- `slots::buffer::hold_row`. The loop's invariant: the jobs with windows before `first` have reserved.
 use Prim.Native.Nat.{◌-◌}
 use Rattle.slots.proofs.HoldingRow.{HoldingRow}
 use Rattle.slots.proofs.buffer.hold_row.Given as goal

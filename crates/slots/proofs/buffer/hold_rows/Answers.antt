@@ -1,4 +1,4 @@
--- `slots::buffer::hold_rows` meets its contract. The loop's invariant: the first i rows have reserved.
+-- `slots::buffer::hold_rows` meets its contract.
 use Rattle.table.proofs.Lists.{long}
 use Rattle.slots.proofs.HeldRows.{rows_start, rows_able, rows_step, rows_end}
 use Rattle.slots.proofs.buffer.hold_rows.Goals as goal

@@ -1,4 +1,4 @@
--- `slots::buffer::hold_rows` meets its contract. The loop's invariant: the first i rows have reserved.
+-- `slots::buffer::hold_rows`. The loop's invariant: the first i rows have reserved.
 use Prim.Native.Nat.{◌-◌}
 use Rattle.slots.proofs.HeldRows.{HoldingRows}
 use Rattle.slots.proofs.buffer.hold_rows.Given as goal

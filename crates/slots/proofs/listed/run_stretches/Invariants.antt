@@ -1,4 +1,4 @@
--- `slots::listed::run_stretches` meets its contract.
+-- `slots::listed::run_stretches`: what its loop keeps, and what falls at each turn.
 use Prim.Native.Nat.{◌-◌}
 use lib.ListN.{length}
 use Rattle.slots.proofs.Renewals.{Renewal}

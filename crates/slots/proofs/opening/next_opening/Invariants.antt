@@ -1,4 +1,4 @@
--- `slots::opening::next_opening` meets its contract.
+-- `slots::opening::next_opening`: what its loop keeps, and what falls at each turn.
 use Prim.Native.Nat.{◌-◌}
 use Rattle.slots.proofs.Openings.{Opening}
 use Rattle.slots.proofs.opening.next_opening.Given as goal

@@ -1,4 +1,4 @@
--- `slots::slot::after_clock` meets its contract.
+-- `slots::slot::after_clock`: what its loop keeps, and what falls at each turn.
 use Prim.Native.Nat.{◌-◌}
 use Rattle.slots.proofs.EntryLoops.{Renewing}
 use Rattle.slots.proofs.slot.after_clock.Given as goal

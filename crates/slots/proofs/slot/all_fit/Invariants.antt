@@ -1,4 +1,4 @@
--- `slots::slot::all_fit` meets its contract.
+-- `slots::slot::all_fit`: what its loop keeps, and what falls at each turn.
 use Prim.Native.Nat.{◌-◌}
 use Rattle.slots.proofs.EntryLoops.{Fitting}
 use Rattle.slots.proofs.slot.all_fit.Given as goal

@@ -1,4 +1,4 @@
--- `slots::slot::left_units` meets its contract.
+-- `slots::slot::left_units`: what its loop keeps, and what falls at each turn.
 use Prim.Native.Nat.{◌-◌}
 use Rattle.slots.proofs.EntryLoops.{Left}
 use Rattle.slots.proofs.slot.left_units.Given as goal

@@ -1,4 +1,4 @@
--- `vectors::print::shares` meets its contract.
+-- `vectors::print::shares`: what its loop keeps, and what falls at each turn.
 use Prim.Native.Nat.{◌-◌, ◌≤◌}
 use Rattle.vectors.proofs.print.shares.Given as goal
 
