@@ -1,5 +1,6 @@
 -- What a bag report has, refused or accepted, over the definitions of its contract.
 -- Assumes nothing.
+use Rattle.std.specs.Prelude.{Option, None}
 use mathlib.Core.Path.{◌≡◌, refl, sym, ap, ◌∙◌, subst}
 use mathlib.Core.Logic.{◌↔◌, ⊎_elim}
 use mathlib.Core.Bool.{true, false}
@@ -11,7 +12,7 @@ use lib.Dec.{ltb}
 use lib.ListN.{length, get_or, drop, replicate, length-append, length-drop, get_or-append, get_or-eq_default}
 use lib.Seq.{get_or-append-add, get_or-drop}
 use Rattle.refusal.specs.declared.Refusal.{Refusal}
-use Rattle.refusal.specs.declared.Refusal.TheVariants.{None, Room}
+use Rattle.refusal.specs.declared.Refusal.TheVariants.{Room}
 use Rattle.refusal.specs.Order.{accepted, or_else}
 use Rattle.refusal.specs.Lent.{overlaid}
 use Rattle.refusal.proofs.Order.{none_first, none_later, given_not, accepted_none}
@@ -92,7 +93,7 @@ unfolding bag_mark
 mark_of_four rs works reports k start end = mark_few _ _
 
 -- a refusal writes nothing
-stays : (f : Refusal) (new old : List ℕ) → (f ≡ None → ⊥) → overlaid f new old ≡ old
+stays : (f : Option Refusal) (new old : List ℕ) → (f ≡ None → ⊥) → overlaid f new old ≡ old
 unfolding overlaid
 stays f new old h = rw (not_none f h) refl
 
@@ -102,7 +103,7 @@ unfolding fresh_record
 fresh_is t z = rw z refl
 
 module _ (t : Table) (reps : List ℕ) (row : ℕ) (spans old : List ℕ) where
-  abbrev gave : Refusal
+  abbrev gave : Option Refusal
   gave = bag_refusal t reps row spans old
 
   abbrev marks : List ℕ
@@ -130,14 +131,14 @@ module _ (t : Table) (reps : List ℕ) (row : ℕ) (spans old : List ℕ) where
   pub admits : bag_refusal t reps row spans old ≡ None → Admitted
   unfolding bag_refusal room_refusal
   admits z =
-      let run : Refusal = (run_of (used t) (fresh_record t) reps).refusal in
-      let desk : Refusal = desk_refusal t.n row (length reps) spans in
+      let run : Option Refusal = (run_of (used t) (fresh_record t) reps).refusal in
+      let desk : Option Refusal = desk_refusal t.n row (length reps) spans in
       let later : or_else (room_refusal spans old) (or_else run desk) ≡ None = none_later _ _ z in
       let last : or_else run desk ≡ None = none_later _ _ later in
       let d = desk_none t.n row (length reps) spans (none_later _ _ last) in
       record {
         table = none_first _ _ z;
-        room = ltb-false (length old) (length spans / 2) (given_not (ltb (length old) (length spans / 2)) Room (omega arith) (none_first _ _ later));
+        room = ltb-false (length old) (length spans / 2) (given_not (ltb (length old) (length spans / 2)) Room (none_first _ _ later));
         run = none_first _ _ last;
         one = d.0;
         last = d.1;

@@ -25,7 +25,8 @@ use Rattle.dosing.specs.Turns.{start_of}
 use Rattle.dosing.proofs.Due.{due_same}
 use Rattle.bagreport.specs.Answers.{works_of}
 use Rattle.bagreport.specs.Pairs.{bags, start_at, end_at}
-use Rattle.bagreport.specs.Turns.{code_of, Looks, kind_of, joined_mark, Remarked, Bagged, Beyond}
+use Rattle.bagreport.specs.declared.told.Ended.{Ended}
+use Rattle.bagreport.specs.Turns.{ended_of, Looks, kind_of, joined_mark, Remarked, Bagged, Beyond}
 use Rattle.bagreport.proofs.JobCounted.{mark_more}
 use Rattle.bagreport.proofs.StretchTold.{due_more, not_end}
 
@@ -68,14 +69,14 @@ module _ (rs : List Row) (works : ℕ → Work) (reports : ℕ → ℕ) (k : ℕ
     more test = due_more rs works reports k long a b later near h test start
 
     -- and the bag looks at its job
-    pub mark_looked : start < b → b ≤ end → joined_mark (bag_mark rs works reports k start (min end a)) (kind_of (code_of ending)) ≡ bag_mark rs works reports k start (min end b)
+    pub mark_looked : start < b → b ≤ end → joined_mark (bag_mark rs works reports k start (min end a)) (kind_of (ended_of ending)) ≡ bag_mark rs works reports k start (min end b)
     unfolding bag_mark
     mark_looked l u =
         let x : min end a ≡ a = omega arith in
         let y : b ≡ min end b = omega arith in
         let one : (test : Ending → Bool) → jobs_due rs works reports test k start a + unit (test ending) ≡ jobs_due rs works reports test k start b
         = λ test. sym (more test ∙ ap (λ (z : Bool). jobs_due rs works reports test k start a + unit (z && test ending)) (lt-ltb start b l)) in
-        ap (λ (e : ℕ). joined_mark (bag_mark rs works reports k start e) (kind_of (code_of ending))) x
+        ap (λ (e : ℕ). joined_mark (bag_mark rs works reports k start e) (kind_of (ended_of ending))) x
         ∙ mark_more ending (jobs_due rs works reports by_primary k start a) (jobs_due rs works reports by_alternate k start a)
         ∙ ap₂ mark_of (one by_primary) (one by_alternate)
         ∙ ap (bag_mark rs works reports k start) y
@@ -100,10 +101,10 @@ module _ (rs : List Row) (works : ℕ → Work) (reports : ℕ → ℕ) (k : ℕ
 
 -- ---- all bags
 module _ (t : Table) (reps : List ℕ) (k : ℕ) (spans : List ℕ) (a b : ℕ) (later : a < b) (long : 0 < (row_at (used t) k).period) (near : b ≤ window_end (row_at (used t) k) a)
-    (code : ℕ)
-    (is_code : code ≡ code_of (ending_of (works_of t reps) (reported reps) k (row_at (used t) k).primary (start_of (row_at (used t) k) a) (new_job (row_at (used t) k)) (b - start_of (row_at (used t) k) a)))
+    (ended : Ended)
+    (is_ended : ended ≡ ended_of (ending_of (works_of t reps) (reported reps) k (row_at (used t) k).primary (start_of (row_at (used t) k) a) (new_job (row_at (used t) k)) (b - start_of (row_at (used t) k) a)))
     (old new : List ℕ) (before : Bagged t reps k spans a old)
-    (on : starts (row_at (used t) k) b ≡ true → Remarked spans b (kind_of code) old new)
+    (on : starts (row_at (used t) k) b ≡ true → Remarked spans b (kind_of ended) old new)
     (off : starts (row_at (used t) k) b ≡ false → new ≡ old) where
   abbrev works : ℕ → Work
   works = works_of t reps
@@ -123,7 +124,7 @@ module _ (t : Table) (reps : List ℕ) (k : ℕ) (spans : List ℕ) (a b : ℕ) 
       ⊎_elim (λ (h : starts (row_at (used t) k) b ≡ true).
       ⊎_elim (λ (x : Looks spans b c).
       (on h).looked c x
-      ∙ ap₂ (λ (m d : ℕ). joined_mark m (kind_of d)) (before.each c l) is_code
+      ∙ ap₂ (λ (m : ℕ) (d : Ended). joined_mark m (kind_of d)) (before.each c l) is_ended
       ∙ mark_looked (used t) works (reported reps) k long a b later near (start_at spans c) (end_at spans c) h x.1 x.2)
       (λ (x : start_at spans c < b → b ≤ end_at spans c → ⊥).
       (on h).others c (λ y. x y.1 y.2)

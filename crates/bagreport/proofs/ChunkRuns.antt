@@ -1,5 +1,6 @@
 -- One chunk of the reports, run from the record that those before it gave: it stops where the whole list does, and its log's bytes are the whole list's.
 -- Assumes nothing.
+use Rattle.std.specs.Prelude.{None}
 use mathlib.Core.Path.{◌≡◌, sym, ap, ◌∙◌}
 use mathlib.Core.Logic.{◌≢◌}
 use mathlib.Core.List.{List, ◌++◌}
@@ -7,7 +8,6 @@ use Prim.Native.Nat.{ℕ, ◌+◌, ◌-◌, ◌≤◌, ◌<◌}
 use native.Mathlib.Omega.{arith}
 use lib.ListN.{length, get_or, take, drop, length-append, length-drop, take-append-drop, get_or-append}
 use lib.Seq.{length-take-le, take-add, get_or-append-add}
-use Rattle.refusal.specs.declared.Refusal.TheVariants.{None}
 use Rattle.table.specs.declared.Row.{Row}
 use Rattle.table.specs.declared.Table.{Table}
 use Rattle.table.specs.Rows.{used}

@@ -1,6 +1,7 @@
 -- What the bag report promises, through the contract of `bagreport::report` as the check reads it from the source: of whatever answer and lent bytes meet it. The contract asks
 -- nothing of a caller, and the check proves that the call ends. docs/PROMISES.md names these theorems.
 -- Assumes nothing.
+use Rattle.std.specs.Prelude.{Option, Some, None}
 use mathlib.Core.Path.{◌≡◌, refl, sym, ap, ap₂, ◌∙◌, subst}
 use mathlib.Core.Logic.{◌≢◌, ◌⊎◌, inl, inr, ◌↔◌, ⊎_elim}
 use mathlib.Core.Bool.{Bool, true, false, cond}
@@ -11,7 +12,7 @@ use borrow.Author.Tests.{eqb-true, eq-eqb, ne_eqb}
 use lib.Dec.{eqb}
 use lib.ListN.{length, get_or, drop, replicate, length-replicate, get_or-replicate, get_or-append}
 use Rattle.refusal.specs.declared.Refusal.{Refusal}
-use Rattle.refusal.specs.declared.Refusal.TheVariants.{None, Spans}
+use Rattle.refusal.specs.declared.Refusal.TheVariants.{Spans}
 use Rattle.table.specs.declared.Row.{Row}
 use Rattle.table.specs.declared.Table.{Table}
 use Rattle.table.specs.Windows.{closes}
@@ -66,8 +67,8 @@ module _ (c : ReportCall) where
   gives = ap (λ (r : BagReport). r.refusal) c.meets.0
 
   -- ---- the refusals: 1 to 7, 8, then, slot by slot, 10 before 11, 14, 15, each exactly where the documents say
-  pub report_refuses : (f : Refusal) → (c.answer.refusal ≡ f) ↔ BagGives (bag_table c) (bag_reports c) (bag_row c) (bag_spans c) (old_bytes c) f
-  report_refuses f = subst (λ (g : Refusal). (g ≡ f) ↔ BagGives t reps row spans old f) (sym gives) (report_gives t reps row spans old f)
+  pub report_refuses : (f : Option Refusal) → (c.answer.refusal ≡ f) ↔ BagGives (bag_table c) (bag_reports c) (bag_row c) (bag_spans c) (old_bytes c) f
+  report_refuses f = subst (λ (g : Option Refusal). (g ≡ f) ↔ BagGives t reps row spans old f) (sym gives) (report_gives t reps row spans old f)
 
   -- 'no refusal here writes anything'
   pub refused_writes_nothing : c.answer.refusal ≢ None → new_bytes c ≡ old_bytes c
@@ -211,9 +212,9 @@ module _ (c : ReportCall) where
 
   -- ---- 15 'when there are more than 4,294,967,295 reports', where no earlier refusal applies: shown by proof alone, as no list so long is tried
   pub many_reports : TableGives (bag_table c) None → (FewBytes (bag_spans c) (old_bytes c) → ⊥) → ListStops (bag_rows c) (fresh_record (bag_table c)) (bag_reports c) None (bag_slots c)
-      → (OutsideTable (bag_table c) (bag_row c) → ⊥) → 4294967295 < bag_slots c → c.answer.refusal ≡ Spans
+      → (OutsideTable (bag_table c) (bag_row c) → ⊥) → 4294967295 < bag_slots c → c.answer.refusal ≡ Some Spans
   unfolding BagGives
-  many_reports table room run inside l = (report_refuses Spans).1 (inr (table, inr (inr (room, refl), inr ((length reps, run), inr (inr (inside, refl), inl (many l, refl))))))
+  many_reports table room run inside l = (report_refuses (Some Spans)).1 (inr (table, inr (inr (room, refl), inr ((length reps, run), inr (inr (inside, refl), inl (many l, refl))))))
 
 -- a list of any length can be run to its end: one whose every report is 0
 pub zeros_run : (rs : List Row) (q : Record) (n : ℕ) → ListStops rs q (replicate n 0) None n

@@ -1,5 +1,6 @@
 -- When each refusal of the bag report is given: what specs/Exactly says of a refusal brings it about, and of every input it says something of some refusal.
 -- Assumes nothing.
+use Rattle.std.specs.Prelude.{Option, Some, None}
 use mathlib.Core.Path.{◌≡◌, refl}
 use mathlib.Core.Logic.{inl, inr, ◌↔◌, ⊎_elim}
 use mathlib.Core.Bool.{Bool, true, false, ◌||◌}
@@ -10,7 +11,7 @@ use borrow.Author.Tests.{eqb-true, eq-eqb, ltb-true, lt-ltb, leb-true}
 use lib.Dec.{eqb, ltb, leb}
 use lib.ListN.{length}
 use Rattle.refusal.specs.declared.Refusal.{Refusal}
-use Rattle.refusal.specs.declared.Refusal.TheVariants.{None, Room, Dosing, Spans}
+use Rattle.refusal.specs.declared.Refusal.TheVariants.{Room, Dosing, Spans}
 use Rattle.refusal.specs.Order.{given}
 use Rattle.table.specs.declared.Table.{Table}
 use Rattle.table.specs.Rows.{used}
@@ -27,15 +28,15 @@ use Rattle.bagreport.specs.Exactly.{Where, FewBytes, OutsideTable, BadSpans, Bag
 use Rattle.bagreport.proofs.SpanOrder.{next_start, next_end, fault_even, fault_ordered, fault_within}
 
 -- ---- one refusal, by a test that says when
-where_gives : {P : Type 0} (b : Bool) → (b ≡ true) ↔ P → (g f : Refusal) → (given b g ≡ f) ↔ Where P g f
+where_gives : {P : Type 0} (b : Bool) → (b ≡ true) ↔ P → (g : Refusal) (f : Option Refusal) → (given b g ≡ f) ↔ Where P g f
 where_gives {P} b is g = exact (Where P g) brings some
   where
-    brings : (f : Refusal) → Where P g f → given b g ≡ f
+    brings : (f : Option Refusal) → Where P g f → given b g ≡ f
     brings f (inl h) = rw (is.1 h.0, h.1) refl
     brings f (inr h) = rw (false_if b (λ e. h.0 (is.0 e)), h.1) refl
 
-    some : (f : Refusal) × Where P g f
-    some = ⊎_elim (λ (e : b ≡ true). (g, inl (is.0 e, refl))) (λ (e : b ≡ false). (None, inr (λ p. never (is.1 p) e, refl))) (split b)
+    some : (f : Option Refusal) × Where P g f
+    some = ⊎_elim (λ (e : b ≡ true). (Some g, inl (is.0 e, refl))) (λ (e : b ≡ false). (None, inr (λ p. never (is.1 p) e, refl))) (split b)
 
 true_if : (b : Bool) → (b ≡ false → ⊥) → b ≡ true
 true_if true h = refl
@@ -112,12 +113,12 @@ module _ (slots : ℕ) (spans : List ℕ) where
   bad_exactly = (bad_found, bad_test)
 
 -- ---- 1 to 7, 8, then, slot by slot, 10 before 11, then 14, then 15
-pub report_gives : (t : Table) (reps : List ℕ) (row : ℕ) (spans old : List ℕ) (f : Refusal) → (bag_refusal t reps row spans old ≡ f) ↔ BagGives t reps row spans old f
+pub report_gives : (t : Table) (reps : List ℕ) (row : ℕ) (spans old : List ℕ) (f : Option Refusal) → (bag_refusal t reps row spans old ≡ f) ↔ BagGives t reps row spans old f
 unfolding bag_refusal room_refusal desk_refusal BagGives
 report_gives t reps row spans old =
-    let Run : Refusal → Type 0 = λ f. (n : ℕ) × ListStops (used t) (fresh_record t) reps f n in
-    let Row : Refusal → Type 0 = Where (OutsideTable t row) Dosing in
-    let Bags : Refusal → Type 0 = Where (BadSpans (length reps) spans) Spans in
+    let Run : Option Refusal → Type 0 = λ f. (n : ℕ) × ListStops (used t) (fresh_record t) reps f n in
+    let Row : Option Refusal → Type 0 = Where (OutsideTable t row) Dosing in
+    let Bags : Option Refusal → Type 0 = Where (BadSpans (length reps) spans) Spans in
     chain (TableGives t) (Then (Where (FewBytes spans old) Room) (Then Run (Then Row Bags))) (table_gives t)
     (chain (Where (FewBytes spans old) Room) (Then Run (Then Row Bags)) (where_gives _ (few_exactly spans old) Room)
     (chain Run (Then Row Bags) (stop_gives (used t) (fresh_record t) reps)

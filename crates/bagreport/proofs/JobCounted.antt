@@ -1,10 +1,10 @@
--- One job more: what its window's end adds to its row's counts and to a bag's byte, by the code of its ending.
+-- One job more: what its window's end adds to its row's counts and to a bag's byte, by its ending.
 -- Assumes nothing.
 use mathlib.Core.Path.{◌≡◌, refl, ap, ap₂, ◌∙◌}
 use mathlib.Core.Bool.{Bool, true, false, not, cond}
 use Prim.Native.Nat.{ℕ, zero, suc, ◌+◌, ◌-◌}
+use Rattle.std.proofs.Common.{add-zero}
 use native.Mathlib.Omega.{arith}
-use lib.Dec.{eqb}
 use Rattle.table.specs.declared.Row.{Row}
 use Rattle.rule.specs.Slots.{unit}
 use Rattle.slots.specs.Records.{new_job}
@@ -12,28 +12,21 @@ use Rattle.slots.specs.OneSlot.{Work}
 use Rattle.slots.specs.History.{primaries}
 use Rattle.slots.specs.LostUnits.{Ending, going, past, done, failed, overran, aborted, ending_of}
 use Rattle.slots.proofs.JobStory.{primaries_none}
-use Rattle.dosing.specs.Jobs.{by_primary, by_alternate, fell}
+use Rattle.dosing.specs.Jobs.{any, by_primary, by_alternate, fell}
 use Rattle.dosing.specs.Bags.{mark_of}
-use Rattle.bagreport.specs.Turns.{code_of, no_open, open_from, kind_of, joined_mark}
+use Rattle.bagreport.specs.declared.due.Counts.{Counts}
+use Rattle.bagreport.specs.Turns.{ended_of, no_open, open_from, counted_by, kind_of, joined_mark}
 
 -- ---- by its ending
-pub done_unit : (e : Ending) → cond (eqb (code_of e) 1) 1 0 ≡ unit (by_primary e)
-done_unit going = refl
-done_unit past = refl
-done_unit done = refl
-done_unit failed = refl
-done_unit overran = refl
-done_unit aborted = refl
+pub counted_is : (e : Ending) (c : Counts) → counted_by (ended_of e) c ≡ record { all = c.all + unit (any e); done = c.done + unit (by_primary e); fell = c.fell + unit (fell e) }
+counted_is going c = simp add-zero
+counted_is past c = simp add-zero
+counted_is done c = simp add-zero
+counted_is failed c = simp add-zero
+counted_is overran c = simp add-zero
+counted_is aborted c = simp add-zero
 
-pub fell_unit : (e : Ending) → cond (eqb (code_of e) 2) 1 0 ≡ unit (fell e)
-fell_unit going = refl
-fell_unit past = refl
-fell_unit done = refl
-fell_unit failed = refl
-fell_unit overran = refl
-fell_unit aborted = refl
-
-kind_is : (e : Ending) → kind_of (code_of e) ≡ cond (by_primary e) 1 2
+kind_is : (e : Ending) → kind_of (ended_of e) ≡ cond (by_primary e) 1 2
 kind_is going = refl
 kind_is past = refl
 kind_is done = refl
@@ -66,7 +59,7 @@ one_more : (b : Bool) (p a : ℕ) → joined_mark (mark_of p a) (cond b 1 2) ≡
 one_more true p a = by_primary_lem p a ∙ ap₂ mark_of (next p) (same a)
 one_more false p a = by_alternate_lem p a ∙ ap₂ mark_of (same p) (next a)
 
-pub mark_more : (e : Ending) (p a : ℕ) → joined_mark (mark_of p a) (kind_of (code_of e)) ≡ mark_of (p + unit (by_primary e)) (a + unit (by_alternate e))
+pub mark_more : (e : Ending) (p a : ℕ) → joined_mark (mark_of p a) (kind_of (ended_of e)) ≡ mark_of (p + unit (by_primary e)) (a + unit (by_alternate e))
 mark_more e p a = ap (joined_mark (mark_of p a)) (kind_is e) ∙ one_more (by_primary e) p a
 
 -- ---- a job whose window has just opened

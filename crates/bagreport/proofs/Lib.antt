@@ -8,7 +8,6 @@ pub mod ReportCases
 pub mod Marking
 pub mod SpanOrder
 pub mod OpenJobs
-pub mod ToldCases
 pub mod SlotsTold
 pub mod ChunkRuns
 pub mod Passing

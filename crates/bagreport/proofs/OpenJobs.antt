@@ -5,7 +5,6 @@ use mathlib.Core.Bool.{Bool, true, false, cond}
 use Prim.Native.Nat.{ℕ, zero, suc, ◌+◌, ◌-◌, ◌≤◌}
 use native.Mathlib.Omega.{arith}
 use lib.Dec.{eqb}
-use borrow.Author.Tests.{ne_eqb}
 use Rattle.table.specs.declared.Row.{Row}
 use Rattle.rule.specs.Slots.{unit}
 use Rattle.rule.proofs.Tests.{never}
@@ -16,8 +15,10 @@ use Rattle.slots.specs.LostUnits.{Ending, going, past, done, failed, overran, ab
 use Rattle.slots.proofs.JobFacts.{new_job_lem}
 use Rattle.slots.proofs.JobStory.{primary_is, alternate_not, primaries_more}
 use Rattle.slots.proofs.LostJobs.{ends_not, ends_tried, ends_fallen}
+use Rattle.bagreport.specs.declared.told.Ended.{Ended}
+use Rattle.bagreport.specs.declared.told.Ended.TheVariants.{Going, Done, Failed, Aborted}
 use Rattle.bagreport.specs.declared.told.Open.{Open}
-use Rattle.bagreport.specs.Turns.{code_of, told_by, open_from}
+use Rattle.bagreport.specs.Turns.{ended_of, or_ended, told_by, open_from}
 
 -- ---- an ending that the history tells of: no job that starts in it had ended before
 abbrev is_past : Ending → Bool
@@ -59,18 +60,20 @@ later_new failed x h g = refl
 later_new overran x h g = refl
 later_new aborted x h g = refl
 
--- ---- by its code the first ending stands
-later_code : (e x : Ending) → is_past e ≡ false → code_of (or_later e x) ≡ cond (eqb (code_of e) 0) (code_of x) (code_of e)
-later_code going x h = refl
-later_code past x h = never refl h
-later_code done x h = refl
-later_code failed x h = refl
-later_code overran x h = refl
-later_code aborted x h = refl
+-- ---- as it is told, the first ending stands
+later_ended : (e x : Ending) → is_past e ≡ false → ended_of (or_later e x) ≡ or_ended (ended_of e) (ended_of x)
+later_ended going x h = refl
+later_ended past x h = never refl h
+later_ended done x h = refl
+later_ended failed x h = refl
+later_ended overran x h = refl
+later_ended aborted x h = refl
 
-code_stays : (c : ℕ) → cond (eqb c 0) 0 c ≡ c
-code_stays zero = refl
-code_stays (suc c) = simp (ne_eqb (suc c) 0 (λ z. omega arith))
+stays_ended : (e : Ended) → or_ended e Going ≡ e
+stays_ended Going = refl
+stays_ended Done = refl
+stays_ended Failed = refl
+stays_ended Aborted = refl
 
 -- ---- row k's job, whose window opens at slot s
 module _ (works : ℕ → Work) (reports : ℕ → ℕ) (k : ℕ) (r : Row) (s : ℕ) where
@@ -94,30 +97,30 @@ module _ (works : ℕ → Work) (reports : ℕ → ℕ) (k : ℕ) (r : Row) (s :
       later_new (ending n) (ends_by k r.primary (works (s + n)) (reports (s + n)) (units_run works k s (new_job r) (suc n))) (ending_new n)
       (ends_new k r.primary (works (s + n)) (reports (s + n)) (units_run works k s (new_job r) (suc n)))
 
-  code_more : (n : ℕ) → code_of (ending (suc n)) ≡ cond (eqb (code_of (ending n)) 0) (code_of (ends_by k r.primary (works (s + n)) (reports (s + n)) (ran (suc n)))) (code_of (ending n))
+  ended_more : (n : ℕ) → ended_of (ending (suc n)) ≡ or_ended (ended_of (ending n)) (ended_of (ends_by k r.primary (works (s + n)) (reports (s + n)) (ran (suc n))))
   unfolding ending_of
-  code_more n =
-      later_code (ending n) (ends_by k r.primary (works (s + n)) (reports (s + n)) (units_run works k s (new_job r) (suc n))) (ending_new n)
-      ∙ ap (λ (u : ℕ). cond (eqb (code_of (ending n)) 0) (code_of (ends_by k r.primary (works (s + n)) (reports (s + n)) u)) (code_of (ending n))) (run_new (suc n))
+  ended_more n =
+      later_ended (ending n) (ends_by k r.primary (works (s + n)) (reports (s + n)) (units_run works k s (new_job r) (suc n))) (ending_new n)
+      ∙ ap (λ (u : ℕ). or_ended (ended_of (ending n)) (ended_of (ends_by k r.primary (works (s + n)) (reports (s + n)) u))) (run_new (suc n))
 
   -- after n slots
-  open_after : (n : ℕ) → open_from works reports k r s (s + n) ≡ record { units = ran n; ended = code_of (ending n) }
+  open_after : (n : ℕ) → open_from works reports k r s (s + n) ≡ record { units = ran n; ended = ended_of (ending n) }
   unfolding open_from
   open_after n = let e : s + n - s ≡ n = omega arith in rw e refl
 
   -- ---- n slots after the window's opening, one slot more
   module _ (n : ℕ) where
     ended_by : (e : Ending) → ends_by k r.primary (works (s + n)) (reports (s + n)) (ran (suc n)) ≡ e
-        → code_of (ending (suc n)) ≡ cond (eqb (code_of (ending n)) 0) (code_of e) (code_of (ending n))
-    ended_by e h = code_more n ∙ ap (λ (x : Ending). cond (eqb (code_of (ending n)) 0) (code_of x) (code_of (ending n))) h
+        → ended_of (ending (suc n)) ≡ or_ended (ended_of (ending n)) (ended_of e)
+    ended_by e h = ended_more n ∙ ap (λ (x : Ending). or_ended (ended_of (ending n)) (ended_of x)) h
 
-    open_more : (u c : ℕ) → ran (suc n) ≡ u → code_of (ending (suc n)) ≡ c → open_from works reports k r s (s + suc n) ≡ record { units = u; ended = c }
-    open_more u c h g = open_after (suc n) ∙ ap₂ (λ (x y : ℕ). record { units = x; ended = y }) h g
+    open_more : (u : ℕ) (c : Ended) → ran (suc n) ≡ u → ended_of (ending (suc n)) ≡ c → open_from works reports k r s (s + suc n) ≡ record { units = u; ended = c }
+    open_more u c h g = open_after (suc n) ∙ ap₂ (λ (x : ℕ) (y : Ended). record { units = x; ended = y }) h g
 
     rests_on : is_primary k (works (s + n)) ≡ false → is_alternate k (works (s + n)) ≡ false → job_to (s + suc n) ≡ job_to (s + n)
     rests_on x y =
-        open_more (ran n) (code_of (ending n)) (omega (arith, primaries_more k works s n, ap unit x))
-        (ended_by going (ends_not k r.primary (works (s + n)) (reports (s + n)) (ran (suc n)) x y) ∙ code_stays (code_of (ending n)))
+        open_more (ran n) (ended_of (ending n)) (omega (arith, primaries_more k works s n, ap unit x))
+        (ended_by going (ends_not k r.primary (works (s + n)) (reports (s + n)) (ran (suc n)) x y) ∙ stays_ended (ended_of (ending n)))
         ∙ sym (open_after n)
 
     tries_on : works (s + n) ≡ primary k → job_to (s + suc n) ≡ told_by (primary k) (reports (s + n)) r (job_to (s + n))
@@ -126,7 +129,7 @@ module _ (works : ℕ → Work) (reports : ℕ → ℕ) (k : ℕ) (r : Row) (s :
         let u : ran (suc n) ≡ ran n + 1 = omega (arith, primaries_more k works s n, ap (λ (v : Work). unit (is_primary k v)) w, ap unit (primary_is k)) in
         let e : ends_by k r.primary (works (s + n)) (reports (s + n)) (ran (suc n)) ≡ by_report (reports (s + n)) r.primary (ran n + 1)
         = ap₂ (λ (v : Work) (x : ℕ). ends_by k r.primary v (reports (s + n)) x) w u ∙ ends_tried k r.primary (reports (s + n)) (ran n + 1) in
-        open_more (ran n + 1) (cond (eqb (code_of (ending n)) 0) (code_of (by_report (reports (s + n)) r.primary (ran n + 1))) (code_of (ending n))) u
+        open_more (ran n + 1) (or_ended (ended_of (ending n)) (ended_of (by_report (reports (s + n)) r.primary (ran n + 1)))) u
         (ended_by (by_report (reports (s + n)) r.primary (ran n + 1)) e)
         ∙ ap (told_by (primary k) (reports (s + n)) r) (sym (open_after n))
 
@@ -136,7 +139,7 @@ module _ (works : ℕ → Work) (reports : ℕ → ℕ) (k : ℕ) (r : Row) (s :
         let u : ran (suc n) ≡ ran n = omega (arith, primaries_more k works s n, ap (λ (v : Work). unit (is_primary k v)) w, ap unit (alternate_not k)) in
         let e : ends_by k r.primary (works (s + n)) (reports (s + n)) (ran (suc n)) ≡ aborted
         = ap (λ (v : Work). ends_by k r.primary v (reports (s + n)) (ran (suc n))) w ∙ ends_fallen k r.primary (reports (s + n)) (ran (suc n)) in
-        open_more (ran n) (cond (eqb (code_of (ending n)) 0) 3 (code_of (ending n))) u (ended_by aborted e)
+        open_more (ran n) (or_ended (ended_of (ending n)) Aborted) u (ended_by aborted e)
         ∙ ap (told_by (alternate k) (reports (s + n)) r) (sym (open_after n))
 
   -- ---- slot t, of the window or after it

@@ -1,19 +1,14 @@
--- A pass from its start to its end: what holds before the first report, what is known once all have been run, and bytes that calls one after the other leave alone.
+-- A pass: what holds before the first report, and what the loop over the chunks keeps.
 -- Assumes nothing.
+use Rattle.std.specs.Prelude.{None}
 use mathlib.Core.Path.{◌≡◌, refl, sym, ap, ◌∙◌, subst}
 use mathlib.Core.List.{List, [], ◌++◌}
 use Prim.Native.Nat.{ℕ, zero, suc, ◌≤◌, min}
 use native.Mathlib.Omega.{arith}
 use lib.ListN.{length, get_or, drop, replicate, length-append, length-replicate, get_or-replicate, get_or-append}
-use lib.Seq.{take-length}
-use Rattle.refusal.specs.declared.Refusal.{Refusal}
-use Rattle.refusal.specs.declared.Refusal.TheVariants.{None}
-use Rattle.refusal.specs.Order.{accepted}
-use Rattle.refusal.proofs.Order.{Told, refused}
 use Rattle.table.specs.declared.Row.{Row}
 use Rattle.table.specs.declared.Table.{Table}
 use Rattle.table.specs.Rows.{used, row_at}
-use Rattle.rule.proofs.Tests.{never}
 use Rattle.reserve.specs.Check.{table_refusal}
 use Rattle.slots.specs.declared.Record.{Record}
 use Rattle.slots.specs.Records.{fresh_record}
@@ -30,7 +25,7 @@ use Rattle.bagreport.specs.declared.pass.Tale.{Tale}
 use Rattle.bagreport.specs.Answers.{works_of}
 use Rattle.bagreport.specs.declared.told.Open.{Open}
 use Rattle.bagreport.specs.Pairs.{bags, start_at, end_at}
-use Rattle.bagreport.specs.Turns.{no_open, open_from, no_counts, counts_to, Counted, Ordered, Past, Bagged, Beyond, RunTo, no_tale, TaleAt}
+use Rattle.bagreport.specs.Turns.{no_open, open_from, no_counts, counts_to, Ordered, Past, Bagged, Beyond, RunTo, no_tale, TaleAt}
 use Rattle.bagreport.proofs.JobCounted.{open_new}
 
 -- ---- the reports
@@ -43,9 +38,6 @@ run_start {t} reps z =
       whole = ap (λ (o : Outcome). o.refusal) e;
       next = sym (ap (λ (o : Outcome). o.next) e);
     }
-
-pub run_end : {t : Table} {reps : List ℕ} {q : Record} → RunTo t reps (length reps) q → (run_of (used t) (fresh_record t) reps).refusal ≡ None
-run_end {t} {reps} g = ap (λ (l : List ℕ). (run_of (used t) (fresh_record t) l).refusal) (sym (take-length reps)) ∙ g.whole
 
 -- ---- what has been told before the first slot
 -- the same value at every place
@@ -123,55 +115,24 @@ ordered_none = record { forward = λ c l. absurd (omega arith); apart = λ c d l
 pub beyond_refl : (spans old : List ℕ) → Beyond spans old old
 beyond_refl spans old = record { size = refl; stay = λ c l. refl }
 
-pub beyond_trans : {spans old mid new : List ℕ} → Beyond spans old mid → Beyond spans mid new → Beyond spans old new
-beyond_trans f g = record { size = g.size ∙ f.size; stay = λ c l. g.stay c l ∙ f.stay c l }
-
--- ---- the loop: the first `at` reports have been run and told of, with a log and a buffer of its own; the bags' bytes held `old`
+-- ---- the loop, whose last step may go past the reports: those before `at` have been run and told of, with a log and a buffer of its own; the bags' bytes held `old`
 pub record PassedTo (t : Table) (reps : List ℕ) (place : ℕ) (spans old : List ℕ) (at : ℕ) (q : Record) (tale : Tale) (marks log buffer : List ℕ) : Type 0 where
-  pub run : RunTo t reps at q
-  pub told : TaleAt t reps spans at tale
-  pub bags : Bagged t reps place spans at marks
+  pub run : RunTo t reps (min at (length reps)) q
+  pub told : TaleAt t reps spans (min at (length reps)) tale
+  pub bags : Bagged t reps place spans (min at (length reps)) marks
   pub past : Beyond spans old marks
   pub log_long : length log ≡ 262144
   pub buffer_long : length buffer ≡ 4096
 
 pub passed_start : {t : Table} {reps : List ℕ} {place : ℕ} {spans marks log buffer : List ℕ} {q : Record} {tale : Tale} → table_refusal t ≡ None → q ≡ fresh_record t → tale ≡ no_tale
     → Bagged t reps place spans 0 marks → length log ≡ 262144 → length buffer ≡ 4096 → PassedTo t reps place spans marks 0 q tale marks log buffer
-passed_start {t} {reps} {place} {spans} {marks} z e f b m n =
+passed_start {t} {reps} {place} {spans} {marks} {q = q} {tale = tale} z e f b m n =
+    let none : 0 ≡ min 0 (length reps) = omega arith in
     record {
-      run = subst (RunTo t reps 0) (sym e) (run_start reps z);
-      told = subst (TaleAt t reps spans 0) (sym f) (tale_start t reps spans);
-      bags = b;
+      run = subst (λ (x : ℕ). RunTo t reps x q) none (subst (RunTo t reps 0) (sym e) (run_start reps z));
+      told = subst (λ (x : ℕ). TaleAt t reps spans x tale) none (subst (TaleAt t reps spans 0) (sym f) (tale_start t reps spans));
+      bags = subst (λ (x : ℕ). Bagged t reps place spans x marks) none b;
       past = beyond_refl spans marks;
       log_long = m;
       buffer_long = n;
     }
-
--- one more chunk, up to report `next`
-pub passed_step : {t : Table} {reps : List ℕ} {place : ℕ} {spans old marks log buffer : List ℕ} {at : ℕ} {q : Record} {tale : Tale} → PassedTo t reps place spans old at q tale marks log buffer
-    → {next : ℕ} {q' : Record} {tale' : Tale} {marks' log' buffer' : List ℕ} → RunTo t reps next q' → TaleAt t reps spans next tale' → Bagged t reps place spans next marks'
-    → Beyond spans marks marks' → length log' ≡ length log → length buffer' ≡ length buffer → PassedTo t reps place spans old next q' tale' marks' log' buffer'
-passed_step g r u b f m n = record { run = r; told = u; bags = b; past = beyond_trans g.past f; log_long = m ∙ g.log_long; buffer_long = n ∙ g.buffer_long }
-
--- all of the reports have been run
-module _ {t : Table} {reps : List ℕ} {place : ℕ} {spans old marks log buffer : List ℕ} {at : ℕ} {q : Record} {tale : Tale} (g : PassedTo t reps place spans old at q tale marks log buffer)
-    (m : length reps ≤ at) where
-  all : at ≡ length reps
-  all = omega (arith, g.run.within)
-
-  pub passed_refusal : None ≡ (run_of (used t) (fresh_record t) reps).refusal
-  passed_refusal = sym (run_end (subst (λ (n : ℕ). RunTo t reps n q) all g.run))
-
-  pub passed_counts : Counted t reps (length reps) tale.counts
-  passed_counts = subst (λ (n : ℕ). Counted t reps n tale.counts) all g.told.counts
-
-  pub passed_bags : Bagged t reps place spans (length reps) marks
-  passed_bags = subst (λ (n : ℕ). Bagged t reps place spans n marks) all g.bags
-
--- or one has been refused
-module _ (f : Refusal) (p : Told f) where
-  pub stopped_never : {A : Type 0} → f ≡ None → A
-  stopped_never e = never (ap accepted e) (refused f p)
-
-  pub stopped_refusal : {x : Refusal} → ((f ≡ None → ⊥) → f ≡ x) → f ≡ x
-  stopped_refusal h = h stopped_never

@@ -1,13 +1,15 @@
 -- The second pass, where nothing is refused: what it asks for, and the bytes that it leaves.
 -- Assumes nothing.
-use mathlib.Core.Path.{◌≡◌, sym, ap, ◌∙◌, subst}
+use Rattle.std.specs.Result.{result_err}
+use Rattle.bagreport.specs.declared.due.Counts.{Counts}
+use Rattle.std.specs.Prelude.{Option, None, Result, Ok}
+use mathlib.Core.Path.{◌≡◌, sym, ap, ◌∙◌}
 use mathlib.Core.List.{List, ◌++◌}
 use Prim.Native.Nat.{ℕ, ◌+◌, ◌-◌, ◌/◌, ◌^◌, ◌≤◌, ◌<◌, min}
 use native.Mathlib.Omega.{arith}
 use lib.ListN.{length, get_or, drop, replicate, length-append, length-drop, length-replicate}
 use lib.Seq.{get_or-append-add, get_or-drop}
 use Rattle.refusal.specs.declared.Refusal.{Refusal}
-use Rattle.refusal.specs.declared.Refusal.TheVariants.{None}
 use Rattle.table.specs.declared.Table.{Table}
 use Rattle.table.specs.Rows.{used}
 use Rattle.table.proofs.Check.{used_count}
@@ -16,26 +18,23 @@ use Rattle.reserve.proofs.Verdict.{table_accepted}
 use Rattle.slots.specs.Records.{fresh_record}
 use Rattle.slots.specs.Reports.{run_of}
 use Rattle.slots.specs.History.{reported}
-use Rattle.share.specs.declared.Share.{Share}
 use Rattle.dosing.specs.Bags.{bag_mark, bag_marks}
-use Rattle.bagreport.specs.declared.BagReport.{BagReport}
-use Rattle.bagreport.specs.Answers.{desk_refusal, works_of, sixteen_shares}
+use Rattle.bagreport.specs.Answers.{desk_refusal, works_of}
 use Rattle.bagreport.specs.Pairs.{bags, start_at, end_at}
 use Rattle.bagreport.specs.Turns.{Ordered, Bagged, Beyond}
 use Rattle.bagreport.proofs.Passing.{bagged_start}
 use Rattle.bagreport.proofs.SpanOrder.{fault_ordered, fault_within, desk_none, marks_list}
 
 -- ---- one refusal as two calls say it
-pub both_none : (f g : Refusal) → f ≡ g → f ≡ None → g ≡ None
+pub both_none : (f g : Option Refusal) → f ≡ g → f ≡ None → g ≡ None
 both_none f g e z = sym e ∙ z
+
+pub none_refused : (r : Result (List Counts) Refusal) (counts : List Counts) (g : Option Refusal) → result_err r ≡ g → r ≡ Ok counts → g ≡ None
+none_refused r counts g e z = sym e ∙ ap result_err z
 
 -- a table that is accepted has a row
 pub first_row_lem : (t : Table) → table_refusal t ≡ None → length t.rows ≡ 16 → 0 < length (used t)
 first_row_lem t z x = omega (arith, (table_accepted t z).some, used_count t x (table_accepted t z).few)
-
-pub none_shares : (t : Table) (reps : List ℕ) (xs : List Share) → xs ≡ sixteen_shares t reps
-    → ◌≡◌ {A = BagReport} (record { refusal = None; shares = xs }) (record { refusal = None; shares = sixteen_shares t reps })
-none_shares t reps xs e = ap (λ (s : List Share). record { refusal = None; shares = s }) e
 
 -- ---- what 14 and 15 leave
 module _ (n row slots : ℕ) (spans : List ℕ) (e : desk_refusal n row slots spans ≡ None) where
@@ -55,19 +54,19 @@ desk_place t row slots spans z x e =
     omega (arith, d.0, d.1)
 
 -- ---- the cleared bytes
-module _ (t : Table) (reps spans old cleared : List ℕ) (room : length spans / 2 ≤ length old) (e : cleared ≡ replicate (length spans / 2) 0 ++ drop (length spans / 2) old) where
-  pub cleared_bags : (k : ℕ) → Bagged t reps k spans 0 cleared
-  cleared_bags k = subst (λ (s : List ℕ). Bagged t reps k spans 0 s) (sym e) (bagged_start t reps k spans old room)
+module _ (t : Table) (reps spans old front : List ℕ) (room : length spans / 2 ≤ length old) (e : front ≡ replicate (length spans / 2) 0) where
+  abbrev cleared : List ℕ
+  cleared = front ++ drop (length spans / 2) old
+
+  pub cleared_bags : (k : ℕ) → Bagged t reps k spans 0 (front ++ drop (length spans / 2) old)
+  cleared_bags k = rw e (bagged_start t reps k spans old room)
 
   -- and what is left of them once each bag is marked
   module _ (row : ℕ) (new : List ℕ) (d : desk_refusal t.n row (length reps) spans ≡ None)
-      (f : Refusal) (same : f ≡ (run_of (used t) (fresh_record t) reps).refusal) (accepted : (run_of (used t) (fresh_record t) reps).refusal ≡ None)
-      (marked : f ≡ None → Bagged t reps (row - 1) spans (length reps) new) (kept : Beyond spans cleared new) where
-    zeros : length (replicate {A = ℕ} (bags spans) 0) ≡ bags spans
-    zeros = length-replicate (bags spans) 0
-
-    same_size : length cleared ≡ length old
-    same_size = ap length e ∙ length-append (replicate (bags spans) 0) (drop (bags spans) old) ∙ (let x : length (replicate {A = ℕ} (bags spans) 0) + length (drop (bags spans) old) ≡ length old = omega (arith, zeros, length-drop (bags spans) old, room) in x)
+      (f : Option Refusal) (same : f ≡ (run_of (used t) (fresh_record t) reps).refusal) (accepted : (run_of (used t) (fresh_record t) reps).refusal ≡ None)
+      (marked : f ≡ None → Bagged t reps (row - 1) spans (length reps) new) (kept : Beyond spans (front ++ drop (length spans / 2) old) new) where
+    zeros : length front ≡ bags spans
+    zeros = ap length e ∙ length-replicate (bags spans) 0
 
     -- no bag ends past the slots run
     whole : (c : ℕ) → c < bags spans → get_or new c 0 ≡ bag_mark (used t) (works_of t reps) (reported reps) (row - 1) (start_at spans c) (end_at spans c)
@@ -79,14 +78,15 @@ module _ (t : Table) (reps spans old cleared : List ℕ) (room : length spans / 
     past : (c : ℕ) → bags spans ≤ c → get_or new c 0 ≡ get_or old c 0
     past c l =
         let n : ℕ = c - bags spans in
-        let x : c ≡ length (replicate {A = ℕ} (bags spans) 0) + n = omega (arith, zeros) in
+        let x : c ≡ length front + n = omega (arith, zeros) in
         let y : bags spans + n ≡ c = omega arith in
         kept.stay c l
-        ∙ ap (λ (b : List ℕ). get_or b c 0) e
-        ∙ ap (λ (m : ℕ). get_or (replicate (bags spans) 0 ++ drop (bags spans) old) m 0) x
-        ∙ get_or-append-add (replicate (bags spans) 0) (drop (bags spans) old) n 0
+        ∙ ap (λ (m : ℕ). get_or cleared m 0) x
+        ∙ get_or-append-add front (drop (bags spans) old) n 0
         ∙ get_or-drop (bags spans) old n 0
         ∙ ap (λ (m : ℕ). get_or old m 0) y
 
     pub written_bytes : new ≡ bag_marks (used t) (works_of t reps) (reported reps) (row - 1) spans ++ drop (length spans / 2) old
-    written_bytes = marks_list (used t) (works_of t reps) (reported reps) (row - 1) spans old new (kept.size ∙ same_size) room whole past
+    written_bytes =
+        let size : length cleared ≡ length old = omega (arith, zeros, length-append front (drop (bags spans) old), length-drop (bags spans) old) in
+        marks_list (used t) (works_of t reps) (reported reps) (row - 1) spans old new (kept.size ∙ size) room whole past

@@ -1,15 +1,17 @@
--- The sixteen places' shares, as the code's loop fills them in.
+-- The sixteen places' shares, each made of its counts.
 -- Assumes nothing.
-use mathlib.Core.Path.{◌≡◌, refl, sym, ap, ◌∙◌}
+use Rattle.std.specs.Prelude.{None}
+use mathlib.Core.Path.{◌≡◌, refl, sym, ap, ◌∙◌, subst}
 use mathlib.Core.Logic.{⊎_elim}
 use mathlib.Core.List.{List, ◌++◌}
 use Prim.Native.Nat.{ℕ, zero, suc, ◌+◌, ◌-◌, ◌^◌, ◌≤◌, ◌<◌}
 use native.Mathlib.Omega.{arith}
-use lib.ListN.{length, get_or, set, replicate, length-set, length-append, length-replicate, get_or-replicate, get_or-append}
-use lib.Seq.{ext_get_or, get_or-append-add, get_or-set_same, get_or-set_other}
-use borrow.Author.Count.{below_none, below_more}
-use Rattle.refusal.specs.declared.Refusal.{Refusal}
-use Rattle.refusal.specs.declared.Refusal.TheVariants.{None}
+use lib.ListN.{length, get_or, replicate, length-append, length-replicate, get_or-replicate, get_or-append}
+use lib.Seq.{ext_get_or, get_or-append-add}
+use Rattle.std.specs.Array.{list_steps}
+use Rattle.std.proofs.lemmas.List.{get_or_default}
+use Rattle.std.proofs.lemmas.Iterator.{YieldsList}
+use Rattle.std.proofs.lemmas.Iterator.Consumers.{YieldsList-from_shown}
 use Rattle.table.specs.declared.Table.{Table}
 use Rattle.table.specs.Rows.{used}
 use Rattle.rule.proofs.Tests.{side}
@@ -20,14 +22,9 @@ use Rattle.share.specs.declared.Share.{Share}
 use Rattle.share.specs.Share.{share_of}
 use Rattle.dosing.specs.Jobs.{any}
 use Rattle.dosing.proofs.Due.{due_few, due_divisor}
-use Rattle.bagreport.specs.declared.BagReport.{BagReport}
 use Rattle.bagreport.specs.declared.due.Counts.{Counts}
-use Rattle.bagreport.specs.Answers.{works_of, no_share, refused_with, row_share, row_shares, sixteen_shares}
+use Rattle.bagreport.specs.Answers.{works_of, no_share, row_share, row_shares, sixteen_shares}
 use Rattle.bagreport.specs.Turns.{no_counts, counts_to, Counted}
-
--- ---- beside a refusal
-pub refused_is : (f : Refusal) {xs : List Share} → xs ≡ replicate 16 no_share → ◌≡◌ {A = BagReport} (record { refusal = f; shares = xs }) (refused_with f)
-refused_is f e = ap (λ (xs : List Share). record { refusal = f; shares = xs }) e
 
 -- ---- the list of the promise, place by place
 module _ (t : Table) (reps : List ℕ) where
@@ -101,36 +98,21 @@ module _ {t : Table} {reps : List ℕ} {cs : List Counts} (g : Counted t reps (l
   unfolding counts_to
   counts_divisor k = (due_divisor (used t) (works_of t reps) (reported reps) k 0 (length reps), due_few (used t) (works_of t reps) (reported reps) k any 0 (length reps))
 
+  here : (P : Counts → Type 0) (k : ℕ) → P (counts_to t reps k (length reps)) → P no_counts → P (get_or cs k no_counts)
+  here P k row none =
+      ⊎_elim (λ (u : k < length (used t)). subst P (sym (g.each k u)) row) (λ (u : length (used t) ≤ k). subst P (sym (g.past k u)) none) (side k (length (used t)))
+
   -- as `row_share` asks
-  pub place_parts : (k : ℕ) → (get_or cs k no_counts).fell + (get_or cs k no_counts).done ≤ (get_or cs k no_counts).all
-  place_parts k = ⊎_elim (λ (u : k < length (used t)). rw (g.each k u) (counts_divisor k).0) (λ (u : length (used t) ≤ k). rw (g.past k u) (omega arith)) (side k (length (used t)))
+  pub place_fits : length reps < 2 ^ 32 → (c : Counts) (k : ℕ) → k < length cs → c ≡ get_or cs k c → (c.fell + c.done ≤ c.all) × (c.all < 2 ^ 32)
+  place_fits f c k l e =
+      let n = counts_divisor k in
+      rw (e ∙ get_or_default cs k c no_counts l) (here (λ c. (c.fell + c.done ≤ c.all) × (c.all < 2 ^ 32)) k (n.0, omega (arith, f, n.1)) (omega arith, omega arith))
 
-  pub place_few : length reps < 2 ^ 32 → (k : ℕ) → (get_or cs k no_counts).all < 2 ^ 32
-  place_few f k =
-      ⊎_elim (λ (u : k < length (used t)). rw (g.each k u) (omega (arith, f, (counts_divisor k).1))) (λ (u : length (used t) ≤ k). rw (g.past k u) (omega arith)) (side k (length (used t)))
+  -- ---- one share made of each place's counts
+  pub each_place : YieldsList list_steps (λ c. c) cs cs
+  each_place = YieldsList-from_shown list_steps (λ c. c) (λ xs. xs) (λ xs ys e. ap length e) (λ xs c ys e. e) cs
 
--- ---- the loop: the shares of the first i places
-pub record Filled (cs : List Counts) (xs : List Share) (i : ℕ) : Type 0 where
-  pub size : length xs ≡ 16
-  pub places : (k : ℕ) → k < i → get_or xs k no_share ≡ place_share cs k
-
-pub filled_start : (cs : List Counts) {xs : List Share} → xs ≡ replicate 16 no_share → Filled cs xs 0
-filled_start cs {xs} e = record { size = ap length e; places = below_none (λ k. get_or xs k no_share ≡ place_share cs k) }
-
-pub filled_step : {cs : List Counts} {xs : List Share} {i : ℕ} → Filled cs xs i → i < 16 → {s : Share} → s ≡ place_share cs i → Filled cs (set xs i s) (i + 1)
-filled_step {cs} {xs} {i} g l {s} e =
-    record {
-      size = length-set xs i s ∙ g.size;
-      places =
-          below_more (λ k. get_or (set xs i s) k no_share ≡ place_share cs k) i (λ k u. get_or-set_other xs i k s no_share (λ q. omega arith) ∙ g.places k u)
-          (get_or-set_same xs i s no_share (omega (arith, g.size)) ∙ e);
-    }
-
-pub filled_end : {t : Table} {reps : List ℕ} {cs : List Counts} {xs : List Share} {i : ℕ} → table_refusal t ≡ None → Counted t reps (length reps) cs → Filled cs xs i → 16 ≤ i → xs ≡ sixteen_shares t reps
-filled_end {t} {reps} {cs} {xs} {i} z c g m =
-    shares_list t reps xs g.size few
-    (λ k u. g.places k (omega (arith, few)) ∙ row_counts c k u)
-    (λ k l u. g.places k (omega arith) ∙ past_counts c k l)
-  where
-    few : length (used t) ≤ 16
-    few = (table_usable t z).few
+  pub shares_made : table_refusal t ≡ None → (xs : List Share) → length xs ≡ 16 → ((k : ℕ) → k < 16 → get_or xs k no_share ≡ place_share cs k) → xs ≡ sixteen_shares t reps
+  shares_made z xs size each =
+      let few = (table_usable t z).few in
+      shares_list t reps xs size few (λ k u. each k (omega (arith, few)) ∙ row_counts k u) (λ k l u. each k u ∙ past_counts k l)

@@ -150,37 +150,20 @@ pub record Along (t : Table) (reps : List ℕ) (log : List ℕ) (base from to : 
   pub within : i ≤ to
   pub few : length reps < 2 ^ 63
 
-pub along_start : {t : Table} {reps log : List ℕ} {base from to : ℕ} {os : List Open} → Told t reps (base + from) (base + from) os → from ≤ to → Logged t reps base to log
-    → length reps < 2 ^ 63 → Along t reps log base from to os from
-along_start g l d u = record { told = g; logged = d; begun = omega arith; within = l; few = u }
-
 module _ {t : Table} {reps log : List ℕ} {base from to : ℕ} {os : List Open} {i : ℕ} (g : Along t reps log base from to os i) where
-  module _ (l : i < to) where
-    pub along_byte : i < length log
-    along_byte = omega (arith, g.logged.room)
-
-    pub along_report : base + i < length reps
-    along_report = omega (arith, g.logged.listed)
-
-    pub along_word : base + i < 2 ^ 64
-    along_word = omega (arith, along_report, g.few)
-
-    pub along_units : (p : ℕ) → (get_or os p no_open).units + 1 < 2 ^ 64
-    along_units p = omega (arith, along_report, g.few, g.told.few p)
-
-    pub along_step : (p : ℕ) → p ≡ (get_or log i 0 + 15) % 16 → (o : Open)
-        → o ≡ told_by (work_of (get_or log i 0)) (get_or reps (base + i) 0) (get_or t.rows p blank) (get_or os p no_open) → Along t reps log base from to (set os p o) (i + 1)
-    along_step p e o h =
-        let next : base + (i + 1) ≡ suc (base + i) = omega arith in
-        record {
-          told =
-              subst (λ (x : ℕ). Told t reps (base + from) x (set os p o)) (sym next)
-              (told_next g.told (omega (arith, g.begun)) (get_or log i 0) p (g.logged.small i l) (ap work_of (sym (g.logged.bytes i l))) e o h);
-          logged = g.logged;
-          begun = omega (arith, g.begun);
-          within = omega arith;
-          few = g.few;
-        }
+  pub along_step : i < to → (p : ℕ) → p ≡ (get_or log i 0 + 15) % 16 → (o : Open)
+      → o ≡ told_by (work_of (get_or log i 0)) (get_or reps (base + i) 0) (get_or t.rows p blank) (get_or os p no_open) → Along t reps log base from to (set os p o) (i + 1)
+  along_step l p e o h =
+      let next : base + (i + 1) ≡ suc (base + i) = omega arith in
+      record {
+        told =
+            subst (λ (x : ℕ). Told t reps (base + from) x (set os p o)) (sym next)
+            (told_next g.told (omega (arith, g.begun)) (get_or log i 0) p (g.logged.small i l) (ap work_of (sym (g.logged.bytes i l))) e o h);
+        logged = g.logged;
+        begun = omega (arith, g.begun);
+        within = omega arith;
+        few = g.few;
+      }
 
   pub along_end : to ≤ i → Told t reps (base + from) (base + to) os
   along_end l = let e : i ≡ to = omega (arith, g.within) in subst (λ (x : ℕ). Told t reps (base + from) (base + x) os) e g.told

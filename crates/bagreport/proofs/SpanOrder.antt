@@ -1,16 +1,18 @@
 -- The order desk's list of spans: what its check reads, what an accepted list has, and the bags' bytes as a list.
 -- Assumes nothing.
+use Rattle.std.specs.Prelude.{Some, None}
 use mathlib.Core.Path.{◌≡◌, refl, sym, ap, ◌∙◌}
 use mathlib.Core.Logic.{⊎_elim}
-use mathlib.Core.Bool.{Bool, true, false, ◌||◌}
+use mathlib.Core.Bool.{Bool, true, false, not, ◌||◌}
 use mathlib.Core.List.{List, [], ◌∷◌, ◌++◌}
 use Prim.Native.Nat.{ℕ, zero, suc, ◌+◌, ◌-◌, ◌*◌, ◌/◌, ◌≤◌, ◌<◌}
 use native.Mathlib.Omega.{arith}
 use lib.Dec.{eqb, ltb, leb}
-use lib.ListN.{length, get_or, drop, length-append, length-drop, get_or-append}
-use lib.Seq.{drop-cons, ext_get_or, get_or-append-add, get_or-drop}
-use borrow.Author.Tests.{eqb-false, leb-false, ltb-false, eq-eqb, ne_eqb, le-leb, lt-leb, lt-ltb, le-ltb}
-use Rattle.refusal.specs.declared.Refusal.TheVariants.{None, Dosing, Spans}
+use lib.ListN.{length, get_or, take, drop, length-append, length-drop, get_or-append}
+use lib.Seq.{ext_get_or, get_or-append-add, get_or-drop}
+use borrow.Author.Tests.{eqb-false, leb-false, ltb-false}
+use Rattle.std.proofs.lemmas.List.{take_rest}
+use Rattle.refusal.specs.declared.Refusal.TheVariants.{Dosing, Spans}
 use Rattle.refusal.specs.Order.{given, or_else}
 use Rattle.refusal.proofs.Order.{none_first, none_later, given_not}
 use Rattle.table.specs.declared.Row.{Row}
@@ -21,35 +23,9 @@ use Rattle.bagreport.specs.Answers.{desk_refusal}
 use Rattle.bagreport.specs.Pairs.{bags, start_at, end_at, spans_fault}
 use Rattle.bagreport.specs.Turns.{Ordered}
 
--- ---- the tests, case by case as the code meets them
-module _ (n row : ℕ) where
-  pub row_none : row ≡ 0 → true ≡ (eqb row 0 || ltb n row)
-  row_none h = rw (eq-eqb row 0 h)
-
-  pub row_over : (row ≡ 0 → ⊥) → ltb n row ≡ (eqb row 0 || ltb n row)
-  row_over h = rw (ne_eqb row 0 h)
-
 -- a span that cannot follow the previous one
 abbrev pub bad_span : (start end slots previous : ℕ) → Bool
 bad_span start end slots previous = leb end start || (ltb slots end || ltb start previous)
-
-module _ (start end slots previous : ℕ) where
-  pub span_backward : end ≤ start → true ≡ bad_span start end slots previous
-  span_backward h = rw (le-leb end start h)
-
-  pub span_beyond : start < end → slots < end → true ≡ bad_span start end slots previous
-  span_beyond h k = rw (lt-leb end start h, lt-ltb slots end k)
-
-  pub span_follows : start < end → end ≤ slots → (b : Bool) → b ≡ ltb start previous → b ≡ bad_span start end slots previous
-  span_follows h k b e = e ∙ rw (lt-leb end start h, le-ltb slots end k)
-
--- either of two tests, by the first one's answer
-module _ (a b : Bool) (first : Bool) (e : first ≡ a) where
-  pub or_given : first ≡ true → true ≡ (a || b)
-  or_given h = rw (← e, h)
-
-  pub or_not : first ≡ false → b ≡ (a || b)
-  or_not h = rw (← e, h)
 
 -- ---- the walk over the spans: what is left decides
 or_last : (a b c d : Bool) → (a || (b || (c || d))) ≡ ((a || (b || c)) || d)
@@ -58,65 +34,30 @@ or_last false true c d = refl
 or_last false false c d = refl
 
 -- a pair, and what is after it
-fault_pair : (slots previous start end : ℕ) (spans : List ℕ)
-    → spans_fault slots previous (start ∷ end ∷ spans) ≡ (bad_span start end slots previous || spans_fault slots end spans)
+fault_pair : (slots previous : ℕ) (left : List ℕ) → 2 ≤ length left
+    → spans_fault slots previous left ≡ (bad_span (get_or left 0 0) (get_or left 1 0) slots previous || spans_fault slots (get_or left 1 0) (drop 2 left))
 unfolding spans_fault
-fault_pair slots previous start end spans = or_last (leb end start) (ltb slots end) (ltb start previous) (spans_fault slots end spans)
+fault_pair slots previous [] h = absurd (omega arith)
+fault_pair slots previous (start ∷ []) h = absurd (omega arith)
+fault_pair slots previous (start ∷ end ∷ left) h = or_last (leb end start) (ltb slots end) (ltb start previous) (spans_fault slots end left)
 
 -- less than a pair
-fault_rest : (slots previous : ℕ) (spans : List ℕ) → length spans ≤ 1 → spans_fault slots previous spans ≡ ltb 0 (length spans)
+fault_rest : (slots previous : ℕ) (left : List ℕ) → length left ≤ 1 → spans_fault slots previous left ≡ not (eqb (length left) 0)
 unfolding spans_fault
 fault_rest slots previous [] h = refl
 fault_rest slots previous (start ∷ []) h = refl
-fault_rest slots previous (start ∷ end ∷ spans) h = absurd (omega arith)
+fault_rest slots previous (start ∷ end ∷ left) h = absurd (omega arith)
 
--- after i numbers of a list of n
-pub record Reading (slots : ℕ) (spans : List ℕ) (n previous i : ℕ) : Type 0 where
-  pub size : n ≡ length spans
-  pub few : i ≤ n
-  pub left : spans_fault slots 0 spans ≡ spans_fault slots previous (drop i spans)
+module _ (slots previous : ℕ) (spans left : List ℕ) (inv : spans_fault slots 0 spans ≡ spans_fault slots previous left) where
+  module _ {b : Bool} (h : 2 ≤ length left) (e : b ≡ bad_span (get_or left 0 0) (get_or left 1 0) slots previous) where
+    pub fault_bad : b ≡ true → true ≡ spans_fault slots 0 spans
+    fault_bad t = sym (inv ∙ fault_pair slots previous left h ∙ rw (← e, t))
 
-pub reading_start : {slots n : ℕ} {spans : List ℕ} → n ≡ length spans → Reading slots spans n 0 0
-reading_start e = record { size = e; few = omega arith; left = refl }
+    pub fault_step : b ≡ false → {n : ℕ} → n ≡ length left → spans_fault slots 0 spans ≡ spans_fault slots (get_or left 1 0) (take (n - 2) (drop 2 left))
+    fault_step f k = inv ∙ fault_pair slots previous left h ∙ rw (← e, f, k, take_rest)
 
-module _ {slots n previous i : ℕ} {spans : List ℕ} (g : Reading slots spans n previous i) where
-  abbrev start : ℕ
-  start = get_or spans i 0
-
-  abbrev end : ℕ
-  end = get_or spans (i + 1) 0
-
-  next_pair : 1 < n - i → spans_fault slots 0 spans ≡ (bad_span start end slots previous || spans_fault slots end (drop (i + 2) spans))
-  next_pair l =
-      let one : suc i ≡ i + 1 = omega arith in
-      let two : suc (i + 1) ≡ i + 2 = omega arith in
-      g.left
-      ∙ ap (spans_fault slots previous) (drop-cons spans i 0 (omega (arith, g.size)))
-      ∙ ap (λ (k : ℕ). spans_fault slots previous (start ∷ drop k spans)) one
-      ∙ ap (λ (l : List ℕ). spans_fault slots previous (start ∷ l)) (drop-cons spans (i + 1) 0 (omega (arith, g.size)))
-      ∙ ap (λ (k : ℕ). spans_fault slots previous (start ∷ end ∷ drop k spans)) two
-      ∙ fault_pair slots previous start end (drop (i + 2) spans)
-
-  pub reading_bad : {b : Bool} → 1 < n - i → b ≡ bad_span start end slots previous → b ≡ true → true ≡ spans_fault slots 0 spans
-  reading_bad l e t = or_given (bad_span start end slots previous) (spans_fault slots end (drop (i + 2) spans)) _ e t ∙ sym (next_pair l)
-
-  pub reading_step : {b : Bool} → 1 < n - i → b ≡ bad_span start end slots previous → b ≡ false → Reading slots spans n end (i + 2)
-  reading_step l e f = record {
-    size = g.size;
-    few = omega (arith, g.few);
-    left = next_pair l ∙ sym (or_not (bad_span start end slots previous) (spans_fault slots end (drop (i + 2) spans)) _ e f);
-  }
-
-  pub reading_end : n - i ≤ 1 → ltb i n ≡ spans_fault slots 0 spans
-  reading_end l = last ∙ sym (g.left ∙ fault_rest slots previous (drop i spans) (omega (arith, size, g.size)))
-    where
-      size : length (drop i spans) ≡ length spans - i
-      size = length-drop i spans
-
-      last : ltb i n ≡ ltb 0 (length (drop i spans))
-      last =
-          ⊎_elim (λ (u : i < n). lt-ltb i n u ∙ sym (lt-ltb 0 (length (drop i spans)) (omega (arith, size, g.size))))
-          (λ (u : n ≤ i). le-ltb i n u ∙ sym (le-ltb 0 (length (drop i spans)) (omega (arith, size, g.size)))) (side i n)
+  pub fault_end : {b : Bool} → length left < 2 → b ≡ eqb (length left) 0 → not b ≡ spans_fault slots 0 spans
+  fault_end h e = rw e (sym (inv ∙ fault_rest slots previous left (omega arith)))
 
 -- ---- what a list that can be taken has
 -- the pairs of a list without its first pair
@@ -195,12 +136,12 @@ fault_within slots spans e c l = (pair_at slots 0 spans e c l).within
 
 -- ---- 14, then 15
 module _ (n row slots : ℕ) (spans : List ℕ) where
-  pub desk_row : {b : Bool} → b ≡ (eqb row 0 || ltb n row) → b ≡ true → Dosing ≡ desk_refusal n row slots spans
+  pub desk_row : {b : Bool} → b ≡ (eqb row 0 || ltb n row) → b ≡ true → (Some Dosing) ≡ desk_refusal n row slots spans
   unfolding desk_refusal or_else
   desk_row e t = rw (← e, t) refl
 
   pub desk_spans : {b d : Bool} → b ≡ (eqb row 0 || ltb n row) → b ≡ false → d ≡ (spans_fault slots 0 spans || ltb 4294967295 slots) → d ≡ true
-      → Spans ≡ desk_refusal n row slots spans
+      → (Some Spans) ≡ desk_refusal n row slots spans
   unfolding desk_refusal or_else
   desk_spans e f e' t = rw (← e, f, ← e', t) refl
 
@@ -216,8 +157,8 @@ unfolding desk_refusal
 desk_none n row slots spans e =
     let first = given (eqb row 0 || ltb n row) Dosing in
     let later = given (spans_fault slots 0 spans || ltb 4294967295 slots) Spans in
-    let a = given_not (eqb row 0 || ltb n row) Dosing (omega arith) (none_first first later e) in
-    let b = given_not (spans_fault slots 0 spans || ltb 4294967295 slots) Spans (omega arith) (none_later first later e) in
+    let a = given_not (eqb row 0 || ltb n row) Dosing (none_first first later e) in
+    let b = given_not (spans_fault slots 0 spans || ltb 4294967295 slots) Spans (none_later first later e) in
     let nonzero = eqb-false row 0 (or_first (eqb row 0) (ltb n row) a) in (
       positive row nonzero,
       ltb-false n row (or_second (eqb row 0) (ltb n row) a),

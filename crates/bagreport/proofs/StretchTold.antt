@@ -26,9 +26,9 @@ use Rattle.dosing.proofs.Due.{ending_at_lem, due_same, due_closes}
 use Rattle.bagreport.specs.declared.told.Open.{Open}
 use Rattle.bagreport.specs.declared.due.Counts.{Counts}
 use Rattle.bagreport.specs.Answers.{works_of}
-use Rattle.bagreport.specs.Turns.{code_of, no_open, open_from, Told, no_counts, counted_by, counts_to, Counted}
+use Rattle.bagreport.specs.Turns.{ended_of, no_open, open_from, Told, no_counts, counted_by, counts_to, Counted}
 use Rattle.bagreport.proofs.Closing.{ClosedAt}
-use Rattle.bagreport.proofs.JobCounted.{done_unit, fell_unit, open_new}
+use Rattle.bagreport.proofs.JobCounted.{counted_is, open_new}
 
 -- ---- one row, whose window at slot a ends no earlier than slot b
 module _ (rs : List Row) (works : ℕ → Work) (reports : ℕ → ℕ) (k : ℕ) (long : 0 < (row_at rs k).period) (a b : ℕ) (later : a < b) (near : b ≤ window_end (row_at rs k) a) where
@@ -74,7 +74,7 @@ module _ (rs : List Row) (works : ℕ → Work) (reports : ℕ → ℕ) (k : ℕ
 module _ (t : Table) (reps : List ℕ) (a b : ℕ) (later : a < b)
     (long : (k : ℕ) → k < length (used t) → 0 < (row_at (used t) k).period)
     (near : (k : ℕ) → k < length (used t) → b ≤ window_end (row_at (used t) k) a)
-    (os os' : List Open) (cs cs' : List Counts) (told : Told t reps a b os) (closed : ClosedAt t b os cs os' cs') where
+    (os os' : List Open) (cs cs' : List Counts) (told : Told t reps a b os) (closed : ClosedAt (used t) b os cs os' cs') where
   abbrev row : ℕ → Row
   row k = row_at (used t) k
 
@@ -85,7 +85,7 @@ module _ (t : Table) (reps : List ℕ) (a b : ℕ) (later : a < b)
   abbrev ended : ℕ → Ending
   ended k = ending_of works (reported reps) k (row k).primary (start_of (row k) a) (new_job (row k)) (b - start_of (row k) a)
 
-  pub ended_code : (k : ℕ) → k < length (used t) → (get_or os k no_open).ended ≡ code_of (ended k)
+  pub ended_code : (k : ℕ) → k < length (used t) → (get_or os k no_open).ended ≡ ended_of (ended k)
   unfolding open_from
   ended_code k l = ap (λ (o : Open). o.ended) (told.each k l)
 
@@ -119,14 +119,13 @@ module _ (t : Table) (reps : List ℕ) (a b : ℕ) (later : a < b)
     unfolding counts_to
     counts_more k l h =
         let c : get_or cs k no_counts ≡ counts_to t reps k a = counted.each k l in
-        let e : (get_or os k no_open).ended ≡ code_of (ended k) = ended_code k l in
+        let e : (get_or os k no_open).ended ≡ ended_of (ended k) = ended_code k l in
         let more : (test : Ending → Bool) → jobs_due (used t) works (reported reps) test k 0 b ≡ jobs_due (used t) works (reported reps) test k 0 a + unit (test (ended k))
         = λ test. due_more (used t) works (reported reps) k (long k l) a b later (near k l) h test 0
         ∙ ap (λ (x : Bool). jobs_due (used t) works (reported reps) test k 0 a + unit (x && test (ended k))) (lt-ltb 0 b (omega arith)) in
         ap₂ counted_by e c
-        ∙ same_counts (counted_by (code_of (ended k)) (counts_to t reps k a)) (counts_to t reps k b) (sym (more any))
-        (ap (λ (x : ℕ). jobs_due (used t) works (reported reps) by_primary k 0 a + x) (done_unit (ended k)) ∙ sym (more by_primary))
-        (ap (λ (x : ℕ). jobs_due (used t) works (reported reps) fell k 0 a + x) (fell_unit (ended k)) ∙ sym (more fell))
+        ∙ counted_is (ended k) (counts_to t reps k a)
+        ∙ same_counts _ (counts_to t reps k b) (sym (more any)) (sym (more by_primary)) (sym (more fell))
 
     counts_still : (k : ℕ) → (l : k < length (used t)) → starts (row k) b ≡ false → counts_to t reps k a ≡ counts_to t reps k b
     unfolding counts_to

@@ -1,6 +1,6 @@
 -- The answer of the bag report, refused ones too, with lent bytes that held `old`.
 -- Assumes nothing: these are definitions.
-use Rattle.std.specs.Prelude.{ℕ, zero, suc, ◌-◌, cond, ◌||◌, List, [], ◌∷◌, ◌++◌, eqb, ltb, length, replicate}
+use Rattle.std.specs.Prelude.{Option, ℕ, zero, suc, ◌-◌, cond, ◌||◌, List, [], ◌∷◌, ◌++◌, eqb, ltb, length, replicate}
 use Rattle.refusal.specs.declared.Refusal.{Refusal}
 use Rattle.refusal.specs.declared.Refusal.TheVariants.{Room, Dosing, Spans}
 use Rattle.refusal.specs.Order.{accepted, given, or_else}
@@ -21,17 +21,17 @@ use Rattle.bagreport.specs.Pairs.{bags, spans_fault}
 
 -- ---- the refusals
 -- 8: 'one lent byte for each whole pair'
-unfoldable pub room_refusal : (spans old : List ℕ) → Refusal
+unfoldable pub room_refusal : (spans old : List ℕ) → Option Refusal
 room_refusal spans old = given (ltb (length old) (bags spans)) Room
 
 -- 14 'for a dosing row outside the table'; 15 when the spans are at fault, 'or when there are more than 4,294,967,295 reports'
-unfoldable pub desk_refusal : (n row slots : ℕ) → List ℕ → Refusal
+unfoldable pub desk_refusal : (n row slots : ℕ) → List ℕ → Option Refusal
 desk_refusal n row slots spans =
     or_else (given (eqb row 0 || ltb n row) Dosing)
     (given (spans_fault slots 0 spans || ltb 4294967295 slots) Spans)
 
 -- 1 to 7, 8, then, slot by slot, 10 before 11, 'after 01's for the run' 14, then 15
-unfoldable pub bag_refusal : Table → (reps : List ℕ) (row : ℕ) (spans old : List ℕ) → Refusal
+unfoldable pub bag_refusal : Table → (reps : List ℕ) (row : ℕ) (spans old : List ℕ) → Option Refusal
 bag_refusal t reps row spans old =
     or_else (table_refusal t)
     (or_else (room_refusal spans old)
@@ -62,12 +62,12 @@ abbrev pub no_share : Share
 no_share = record { mark = 0; done = 0; of = 0; share = no_number }
 
 -- ---- the answer and the lent bytes
-abbrev pub refused_with : Refusal → BagReport
+abbrev pub refused_with : Option Refusal → BagReport
 refused_with f = record { refusal = f; shares = replicate 16 no_share }
 
 unfoldable pub report_of : Table → (reps : List ℕ) (row : ℕ) (spans old : List ℕ) → BagReport
 report_of t reps row spans old =
-    let f : Refusal = bag_refusal t reps row spans old in
+    let f : Option Refusal = bag_refusal t reps row spans old in
     record { refusal = f; shares = cond (accepted f) (sixteen_shares t reps) (replicate 16 no_share) }
 
 -- 'no refusal here writes anything'; bytes past the pairs stay. Rows are counted from 1 in the call

@@ -1,7 +1,6 @@
 -- What private functions say of their work: no promise names these. Rows are counted from 0.
 -- Assumes nothing: these are definitions.
-use Rattle.std.specs.Prelude.{◌≡◌, cond, List, ℕ, ◌+◌, ◌-◌, ◌≤◌, ◌<◌, min, eqb, length, get_or, take, replicate}
-use Rattle.refusal.specs.declared.Refusal.TheVariants.{None}
+use Rattle.std.specs.Prelude.{None, ◌≡◌, cond, List, ℕ, ◌+◌, ◌-◌, ◌≤◌, ◌<◌, min, eqb, length, get_or, take, replicate}
 use Rattle.table.specs.declared.Row.{Row}
 use Rattle.table.specs.declared.Table.{Table}
 use Rattle.table.specs.Rows.{used, row_at}
@@ -15,6 +14,8 @@ use Rattle.slots.specs.LostUnits.{Ending, going, past, done, failed, overran, ab
 use Rattle.dosing.specs.Jobs.{any, by_primary, fell, jobs_due}
 use Rattle.dosing.specs.Bags.{bag_mark}
 use Rattle.dosing.specs.Turns.{start_of}
+use Rattle.bagreport.specs.declared.told.Ended.{Ended}
+use Rattle.bagreport.specs.declared.told.Ended.TheVariants.{Going, Done, Failed, Aborted}
 use Rattle.bagreport.specs.declared.told.Open.{Open}
 use Rattle.bagreport.specs.declared.due.Counts.{Counts}
 use Rattle.bagreport.specs.declared.pass.Tale.{Tale}
@@ -22,27 +23,34 @@ use Rattle.bagreport.specs.Pairs.{bags, start_at, end_at}
 use Rattle.bagreport.specs.Answers.{works_of}
 
 -- ---- open jobs
--- the code of an ending
-abbrev pub code_of : Ending → ℕ
-code_of going = 0
-code_of past = 0
-code_of done = 1
-code_of failed = 2
-code_of overran = 2
-code_of aborted = 3
+-- how an ending is told
+abbrev pub ended_of : Ending → Ended
+ended_of going = Going
+ended_of past = Going
+ended_of done = Done
+ended_of failed = Failed
+ended_of overran = Failed
+ended_of aborted = Aborted
+
+-- the first ending stands
+abbrev pub or_ended : (first later : Ended) → Ended
+or_ended Going later = later
+or_ended Done later = Done
+or_ended Failed later = Failed
+or_ended Aborted later = Aborted
 
 -- an open job after a slot that runs its row's unit w
 unfoldable pub told_by : Work → ℕ → Row → Open → Open
 told_by idle rep r o = o
-told_by (primary k) rep r o = record { units = o.units + 1; ended = cond (eqb o.ended 0) (code_of (by_report rep r.primary (o.units + 1))) o.ended }
-told_by (alternate k) rep r o = record { units = o.units; ended = cond (eqb o.ended 0) 3 o.ended }
+told_by (primary k) rep r o = record { units = o.units + 1; ended = or_ended o.ended (ended_of (by_report rep r.primary (o.units + 1))) }
+told_by (alternate k) rep r o = record { units = o.units; ended = or_ended o.ended Aborted }
 
 abbrev pub no_open : Open
-no_open = record { units = 0; ended = 0 }
+no_open = record { units = 0; ended = Going }
 
 -- row k's job whose window opens at slot s, after the slots up to slot t
 unfoldable pub open_from : (works : ℕ → Work) (reports : ℕ → ℕ) (k : ℕ) (r : Row) (s t : ℕ) → Open
-open_from works reports k r s t = record { units = primaries k works s t; ended = code_of (ending_of works reports k r.primary s (new_job r) (t - s)) }
+open_from works reports k r s t = record { units = primaries k works s t; ended = ended_of (ending_of works reports k r.primary s (new_job r) (t - s)) }
 
 -- the open jobs after the slots up to slot `at`, of the windows that slot `from` is in
 pub record Told (t : Table) (reps : List ℕ) (from at : ℕ) (os : List Open) : Type 0 where
@@ -63,8 +71,11 @@ abbrev pub no_counts : Counts
 no_counts = record { all = 0; done = 0; fell = 0 }
 
 -- with one more job, whose primary has ended so
-abbrev pub counted_by : ℕ → Counts → Counts
-counted_by ended c = record { all = c.all + 1; done = c.done + cond (eqb ended 1) 1 0; fell = c.fell + cond (eqb ended 2) 1 0 }
+abbrev pub counted_by : Ended → Counts → Counts
+counted_by Going c = record { all = c.all + 1; done = c.done; fell = c.fell }
+counted_by Done c = record { all = c.all + 1; done = c.done + 1; fell = c.fell }
+counted_by Failed c = record { all = c.all + 1; done = c.done; fell = c.fell + 1 }
+counted_by Aborted c = record { all = c.all + 1; done = c.done; fell = c.fell }
 
 -- row k's jobs whose deadline has come by slot `at`
 unfoldable pub counts_to : Table → List ℕ → (k at : ℕ) → Counts
@@ -96,9 +107,12 @@ pub record Sought (spans : List ℕ) (s b : ℕ) : Type 0 where
   pub past : Past spans b s
   pub here : b < bags spans → s ≤ end_at spans b
 
--- how a job was dosed, by the code of its ending: 1 by its primary, 2 by its alternate
-abbrev pub kind_of : ℕ → ℕ
-kind_of ended = cond (eqb ended 1) 1 2
+-- how a job was dosed: 1 by its primary, 2 by its alternate
+abbrev pub kind_of : Ended → ℕ
+kind_of Going = 2
+kind_of Done = 1
+kind_of Failed = 2
+kind_of Aborted = 2
 
 -- a bag's byte with one more job
 abbrev pub joined_mark : ℕ → ℕ → ℕ

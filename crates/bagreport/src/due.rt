@@ -1,13 +1,11 @@
 // Jobs whose deadline has come: each is counted once, as its window ends.
-ghost use Rattle.std.specs.Prelude.{◌≡◌, cond, ℕ, ◌+◌, ◌^◌, ◌≤◌, ◌<◌, eqb, length};
-ghost use Rattle.refusal.specs.declared.Refusal.TheVariants.{None};
-ghost use Rattle.table.specs.Rows.{used, row_at};
+ghost use Rattle.std.specs.Prelude.{◌≡◌, cond, ℕ, ◌+◌, ◌^◌, ◌≤◌, ◌<◌, length};
+ghost use Rattle.table.specs.Rows.{row_at};
 ghost use Rattle.table.specs.Windows.{starts, window_end};
-ghost use Rattle.reserve.specs.Check.{table_refusal};
 ghost use Rattle.bagreport.specs.Turns.{no_open, counted_by};
 
-use crate::told::Open;
-use table::{Row, Table};
+use crate::told::{Ended, NO_OPEN, Open};
+use table::Row;
 
 // A row's jobs whose deadline has come: all of them, those done by their primary, and those reported failed or overrun.
 #[derive(Clone, Copy)]
@@ -34,40 +32,27 @@ fn to_end(r: Row, s: usize) -> u16
     r.period - into as u16
 }
 
-// How far the nearest end of a window is.
-pub(crate) fn to_nearest_end(t: Table, s: usize) -> u16
-    requires { table_refusal t ≡ None }
-    ensures { (0 < result) × ((i : ℕ) → i < length (used t) → s + result ≤ window_end (row_at (used t) i) s) }
+// How far the nearest end of a window of these rows is.
+pub(crate) fn to_nearest_end(rows: &[Row], s: usize) -> u16
+    requires { (i : ℕ) → i < length rows.now → 0 < (row_at rows.now i).period }
+    ensures { (0 < result) × ((i : ℕ) → i < length rows.now → s + result ≤ window_end (row_at rows.now i) s) }
 {
-    let n = t.n;
-    let mut nearest = to_end(t.rows[0], s);
-    let mut i: u8 = 1;
-    while i < n {
-        let d = to_end(t.rows[i as usize], s);
-        if d < nearest {
-            nearest = d;
-        }
-        i += 1;
+    let mut nearest = u16::MAX;
+    for row in rows {
+        nearest = nearest.min(to_end(*row, s));
     }
     nearest
 }
 
-// One where the codes are the same.
-fn one_if(ended: usize, code: usize) -> usize
-    ensures { result ≡ cond (eqb ended code) 1 0 }
-{
-    if ended == code { 1 } else { 0 }
-}
-
 // The counts with one more job, whose primary has ended so.
-fn counted(c: Counts, ended: usize) -> Counts
+fn counted(c: Counts, ended: Ended) -> Counts
     requires { (c.all + 1 < 2 ^ 64) × (c.done + 1 < 2 ^ 64) × (c.fell + 1 < 2 ^ 64) }
     ensures { result ≡ counted_by ended c }
 {
     Counts {
         all: c.all + 1,
-        done: c.done + one_if(ended, 1),
-        fell: c.fell + one_if(ended, 2),
+        done: c.done + usize::from(ended == Ended::Done),
+        fell: c.fell + usize::from(ended == Ended::Failed),
     }
 }
 
@@ -88,9 +73,5 @@ pub(crate) fn open_at(r: Row, s: usize, o: Open) -> Open
     requires { 0 < r.period }
     ensures { result ≡ cond (starts r s) no_open o }
 {
-    if starts_at(r, s) {
-        Open { units: 0, ended: 0 }
-    } else {
-        o
-    }
+    if starts_at(r, s) { NO_OPEN } else { o }
 }

@@ -1,8 +1,7 @@
 // The bag report: how each bag of an order was dosed by one row, and each row's share of primaries done, over reports from a fresh start.
 #![tactic(auto)]
 
-ghost use Rattle.std.specs.Prelude.{◌≡◌, ◌++◌, ◌+◌, ◌-◌, ◌/◌, ◌^◌, ◌≤◌, ◌<◌, length, drop, replicate};
-ghost use Rattle.refusal.specs.declared.Refusal.TheVariants.{None};
+ghost use Rattle.std.specs.Prelude.{Some, None, ◌≡◌, ◌++◌, ◌+◌, ◌-◌, ◌/◌, ◌^◌, ◌≤◌, ◌<◌, length, drop, replicate};
 ghost use Rattle.table.specs.Rows.{used};
 ghost use Rattle.reserve.specs.Check.{table_refusal};
 ghost use Rattle.slots.specs.Records.{fresh_record};
@@ -26,9 +25,11 @@ mod spans;
 mod told;
 
 // The answer: the refusal, or none, and each place's share. Beside a refusal every figure is 0.
+// An array and no `Vec`, without a heap, and each place past the last row has its mark.
+// No `Result`, since what it promises of the figures holds beside a refusal too (theorem `refused_shows_nothing`).
 #[derive(Clone, Copy)]
 pub struct BagReport {
-    pub refusal: Refusal,
+    pub refusal: Option<Refusal>,
     pub shares: [Share; 16],
 }
 
@@ -45,11 +46,13 @@ fn no_shares() -> [Share; 16]
 }
 
 // The answer beside a refusal.
-fn refused(refusal: Refusal) -> BagReport
-    ensures { result ≡ refused_with refusal }
+fn refused(f: Refusal) -> BagReport
+    ensures { result ≡ refused_with (Some f) }
 {
-    let shares = no_shares();
-    BagReport { refusal, shares }
+    BagReport {
+        refusal: Some(f),
+        shares: no_shares(),
+    }
 }
 
 // A row's share, by its counts.
@@ -65,14 +68,7 @@ fn shares_of(t: Table, reports: &[u8], counts: [Counts; 16]) -> [Share; 16]
     requires { (table_refusal t ≡ None) × (length reports.now < 2 ^ 32) × Counted t reports.now (length reports.now) counts }
     ensures { result ≡ sixteen_shares t reports.now }
 {
-    let mut shares = no_shares();
-    let mut i: usize = 0;
-    while i < 16 {
-        let s = row_share(counts[i]);
-        shares[i] = s;
-        i += 1;
-    }
-    shares
+    counts.map(row_share)
 }
 
 // The second pass, where nothing is refused: it writes the bags' bytes.
@@ -89,12 +85,12 @@ fn written(
     ensures answer { result ≡ record { refusal = None; shares = sixteen_shares t reports.now } }
     ensures bytes { marks.new ≡ bag_marks (used t) (works_of t reports.now) (reported reports.now) (row - 1) spans.now ++ drop (length spans.now / 2) marks.old }
 {
-    marks::clear(marks, spans.len() / 2);
+    marks[..spans.len() / 2].fill(0);
     let place = (row - 1) as usize;
-    pass::pass(start, t, reports, place, spans, marks);
+    let _ = pass::pass(start, t, reports, place, spans, marks);
     let shares = shares_of(t, reports, counts);
     BagReport {
-        refusal: Refusal::None,
+        refusal: None,
         shares,
     }
 }
@@ -113,10 +109,9 @@ fn judged(
     ensures answer { result ≡ report_of t reports.now row spans.now marks.old }
     ensures bytes { marks.new ≡ marks_after t reports.now row spans.now marks.old }
 {
-    let f = spans::desk_refusal(t.n, row, reports.len(), spans);
-    match f {
-        Refusal::None => written(start, t, reports, row, spans, marks, counts),
-        _ => refused(f),
+    match spans::desk_refusal(t.n, row, reports.len(), spans) {
+        None => written(start, t, reports, row, spans, marks, counts),
+        Some(f) => refused(f),
     }
 }
 
@@ -138,12 +133,9 @@ fn admitted(
     }
     let no_spans = [0u64; 0];
     let mut no_marks = [0u8; 0];
-    let first = pass::pass(start, t, reports, 0, &no_spans, &mut no_marks);
-    let f = first.refusal;
-    let counts = first.counts;
-    match f {
-        Refusal::None => judged(start, t, reports, row, spans, marks, counts),
-        _ => refused(f),
+    match pass::pass(start, t, reports, 0, &no_spans, &mut no_marks) {
+        Ok(counts) => judged(start, t, reports, row, spans, marks, counts),
+        Err(f) => refused(f),
     }
 }
 
@@ -154,9 +146,8 @@ pub fn report(t: Table, reports: &[u8], row: u8, spans: &[u64], marks: &mut [u8]
     ensures bytes { marks.new ≡ marks_after t reports.now row spans.now marks.old }
 {
     let started = slots::fresh(t);
-    let f = started.refusal;
-    match f {
-        Refusal::None => admitted(started.start, t, reports, row, spans, marks),
-        _ => refused(f),
+    match started.refusal {
+        None => admitted(started.start, t, reports, row, spans, marks),
+        Some(f) => refused(f),
     }
 }

@@ -1,23 +1,11 @@
 // The bags' bytes, as the deadlines of the dosing row come: spans are read once, in order.
-ghost use Rattle.std.specs.Prelude.{◌≡◌, ◌+◌, ◌/◌, ◌≤◌, ◌<◌, true, false, ◌++◌, length, replicate, drop};
+ghost use Rattle.std.specs.Prelude.{◌≡◌, ◌+◌, ◌/◌, ◌≤◌, ◌<◌, true, false, length};
 ghost use Rattle.table.specs.Windows.{starts};
 ghost use Rattle.bagreport.specs.Turns.{kind_of, joined_mark, Ordered, Past, Sought, Remarked};
 
 use crate::due;
-use crate::told::Open;
+use crate::told::{Ended, Open};
 use table::Row;
-
-// Sets the first n bytes to 0, none.
-pub(crate) fn clear(marks: &mut [u8], n: usize)
-    requires { n ≤ length marks.old }
-    ensures { marks.new ≡ replicate n 0 ++ drop n marks.old }
-{
-    let mut i: usize = 0;
-    while i < n {
-        marks[i] = 0;
-        i += 1;
-    }
-}
 
 // The first bag from one on that does not end before slot s.
 fn seek(spans: &[u64], from: usize, s: u64) -> usize
@@ -25,34 +13,29 @@ fn seek(spans: &[u64], from: usize, s: u64) -> usize
     ensures { Sought spans.now s result }
 {
     let pairs = spans.len() / 2;
-    let mut bag = from;
-    while bag < pairs {
+    for bag in from..pairs {
         if s <= spans[2 * bag + 1] {
             return bag;
         }
-        bag += 1;
     }
-    bag
+    pairs
 }
 
 // How a job was dosed: 1 by its primary, 2 by its alternate.
 fn kind(o: Open) -> u8
     ensures { result ≡ kind_of o.ended }
 {
-    if o.ended == 1 { 1 } else { 2 }
+    match o.ended {
+        Ended::Done => 1,
+        _ => 2,
+    }
 }
 
 // A bag's byte with one more job.
 fn joined(mark: u8, kind: u8) -> u8
     ensures { result ≡ joined_mark mark kind }
 {
-    if mark == 0 {
-        kind
-    } else if mark == kind {
-        mark
-    } else {
-        3
-    }
+    if mark == 0 || mark == kind { kind } else { 3 }
 }
 
 // The job whose deadline is slot s goes to the bag that looks at it, if one does. Answers from which bag on to look next.
@@ -62,10 +45,8 @@ fn put_job(spans: &[u64], marks: &mut [u8], from: usize, s: u64, k: u8) -> usize
     ensures bytes { Remarked spans.now s k marks.old marks.new }
 {
     let bag = seek(spans, from, s);
-    if bag < spans.len() / 2 {
-        if spans[2 * bag] < s {
-            marks[bag] = joined(marks[bag], k);
-        }
+    if bag < spans.len() / 2 && spans[2 * bag] < s {
+        marks[bag] = joined(marks[bag], k);
     }
     bag
 }

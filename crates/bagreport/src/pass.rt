@@ -1,6 +1,6 @@
 // One pass over the reports, chunk by chunk: what is told of each slot is counted, and the bags are marked.
-ghost use Rattle.std.specs.Prelude.{◌≡◌, ◌+◌, ◌-◌, ◌≤◌, ◌<◌, length};
-ghost use Rattle.refusal.specs.declared.Refusal.TheVariants.{None};
+ghost use Rattle.std.specs.Prelude.{None, IfOk, ◌≡◌, ◌+◌, ◌≤◌, ◌<◌, length};
+ghost use Rattle.std.specs.Result.{result_err};
 ghost use Rattle.table.specs.Rows.{used};
 ghost use Rattle.reserve.specs.Check.{table_refusal};
 ghost use Rattle.slots.specs.Records.{fresh_record};
@@ -8,11 +8,14 @@ ghost use Rattle.slots.specs.Reports.{run_of};
 ghost use Rattle.bagreport.specs.Turns.{Logged, Counted, Ordered, Bagged, Beyond, RunTo, TaleAt, no_tale};
 
 use crate::due::Counts;
-use crate::told::Open;
+use crate::told::{NO_OPEN, Open};
 use crate::{due, marks, told};
 use refusal::Refusal;
 use slots::{Ran, Record};
 use table::Table;
+
+// How many reports are run at once.
+const CHUNK: usize = 262144;
 
 // What has been told so far: each row's open job, its counts, and the bag to look at next.
 #[derive(Clone, Copy)]
@@ -22,19 +25,12 @@ pub(crate) struct Tale {
     pub bag: usize,
 }
 
-// What a pass comes to: the refusal that stopped it, and each row's counts.
-#[derive(Clone, Copy)]
-pub(crate) struct Passed {
-    pub refusal: Refusal,
-    pub counts: [Counts; 16],
-}
-
 // Nothing has been told.
 fn nothing_told() -> Tale
     ensures { result ≡ no_tale }
 {
     Tale {
-        opens: [Open { units: 0, ended: 0 }; 16],
+        opens: [NO_OPEN; 16],
         counts: [Counts {
             all: 0,
             done: 0,
@@ -42,23 +38,6 @@ fn nothing_told() -> Tale
         }; 16],
         bag: 0,
     }
-}
-
-// Where the stretch that begins at slot i ends: after `slots` slots, or with the n slots.
-fn stretch(i: usize, n: usize, slots: u16) -> usize
-    requires { (i < n) × (0 < slots) }
-    ensures { (i < result) × (result ≤ n) × (result - i ≤ slots) }
-{
-    let most = slots as usize;
-    if n - i < most { n } else { i + most }
-}
-
-// How many of the reports left are run at once.
-fn chunk(left: usize) -> usize
-    requires { 0 < left }
-    ensures { (0 < result) × (result ≤ left) × (result ≤ 262144) }
-{
-    if left < 262144 { left } else { 262144 }
 }
 
 // Tells of n slots more, of which the log has the bytes. A stretch of them ends where a window does: there jobs are counted, and the next ones open. One function, since arrays that are
@@ -79,31 +58,27 @@ fn tell(
     ensures bags { Bagged t reports.now place spans.now (base + n) marks.new }
     ensures past { Beyond spans.now marks.old marks.new }
 {
+    let rows = t.rows();
     let mut opens = before.opens;
     let mut counts = before.counts;
     let mut bag = before.bag;
     let mut i: usize = 0;
+    // No range steps by stretches, which are of unequal lengths.
     while i < n {
-        let gap = due::to_nearest_end(t, base + i);
-        let stop = stretch(i, n, gap);
-        while i < stop {
-            let ran = log[i];
+        let gap = due::to_nearest_end(rows, base + i);
+        let stop = i + (n - i).min(gap as usize);
+        for j in i..stop {
+            let ran = log[j];
             let at = told::place_of(ran);
-            let o = told::told(t.rows[at], opens[at], ran, reports[base + i]);
-            opens[at] = o;
-            i += 1;
+            opens[at] = told::told(t.rows[at], opens[at], ran, reports[base + j]);
         }
         let s = base + stop;
-        bag = marks::mark_job(t.rows[place], s, opens[place], spans, marks, bag);
-        let mut k: u8 = 0;
-        while k < t.n {
-            let at = k as usize;
-            let c = due::counts_at(t.rows[at], s, opens[at], counts[at]);
-            let o = due::open_at(t.rows[at], s, opens[at]);
-            counts[at] = c;
-            opens[at] = o;
-            k += 1;
+        bag = marks::mark_job(rows[place], s, opens[place], spans, marks, bag);
+        for (k, row) in rows.iter().enumerate() {
+            counts[k] = due::counts_at(*row, s, opens[k], counts[k]);
+            opens[k] = due::open_at(*row, s, opens[k]);
         }
+        i = stop;
     }
     Tale { opens, counts, bag }
 }
@@ -135,37 +110,25 @@ pub(crate) fn pass(
     place: usize,
     spans: &[u64],
     marks: &mut [u8],
-) -> Passed
+) -> Result<[Counts; 16], Refusal>
     requires { (table_refusal t ≡ None) × (start ≡ fresh_record t) × (place < length (used t)) × Ordered spans.now × Bagged t reports.now place spans.now 0 marks.old }
-    ensures refusal { result.refusal ≡ (run_of (used t) (fresh_record t) reports.now).refusal }
-    ensures counts { result.refusal ≡ None → Counted t reports.now (length reports.now) result.counts }
-    ensures bags { result.refusal ≡ None → Bagged t reports.now place spans.now (length reports.now) marks.new }
+    ensures refusal { result_err result ≡ (run_of (used t) (fresh_record t) reports.now).refusal }
+    ensures counts { IfOk result (λ counts. Counted t reports.now (length reports.now) counts) }
+    ensures bags { result_err result ≡ None → Bagged t reports.now place spans.now (length reports.now) marks.new }
     ensures past { Beyond spans.now marks.old marks.new }
 {
-    let mut log = [0u8; 262144];
+    let mut log = [0u8; CHUNK];
     let mut buffer = [0u8; 4096];
     let mut q = start;
     let mut tale = nothing_told();
-    let mut at: usize = 0;
-    while at < reports.len() {
-        let n = chunk(reports.len() - at);
+    for at in (0..reports.len()).step_by(CHUNK) {
+        let n = (reports.len() - at).min(CHUNK);
         let ran = run_chunk(q, t, reports, at, n, &mut log, &mut buffer);
-        let f = ran.refusal;
-        match f {
-            Refusal::None => {
-                tale = tell(tale, t, reports, &log, at, n, place, spans, marks);
-                q = ran.next;
-                at += n;
-            }
-            _ => {
-                let counts = tale.counts;
-                return Passed { refusal: f, counts };
-            }
+        if let Some(f) = ran.refusal {
+            return Err(f);
         }
+        tale = tell(tale, t, reports, &log, at, n, place, spans, marks);
+        q = ran.next;
     }
-    let counts = tale.counts;
-    Passed {
-        refusal: Refusal::None,
-        counts,
-    }
+    Ok(tale.counts)
 }

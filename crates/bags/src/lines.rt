@@ -1,12 +1,12 @@
 // The lines of a report.
-ghost use Rattle.std.specs.Prelude.{◌≡◌, cond, ◌≤◌, ◌<◌, eqb, length};
+ghost use Rattle.std.specs.Prelude.{◌≡◌, ◌<◌};
 ghost use Rattle.bags.specs.Lines.{of_kind, millionths};
 
 use crate::STDOUT_FILENO;
 use share::Share;
 
 // A word, and a number after it.
-fn print_named(word: &[u8], n: u64) {
+pub(crate) fn print_named(word: &[u8], n: u64) {
     io::write_all(STDOUT_FILENO, word);
     io::print_decimal(STDOUT_FILENO, n);
 }
@@ -29,24 +29,11 @@ pub(crate) fn print_bag(bag: usize, start: u64, end: u64, mark: u8) {
     print_kind(mark);
 }
 
-// One where a bag is of a kind.
-fn one_if(mark: u8, kind: u8) -> usize
-    ensures { (result ≡ cond (eqb mark kind) 1 0) × (result ≤ 1) }
-{
-    if mark == kind { 1 } else { 0 }
-}
-
 // How many of the bags are of a kind.
 fn of_kind(marks: &[u8], kind: u8) -> usize
-    ensures { (result ≡ of_kind kind marks.now) × (result ≤ length marks.now) }
+    ensures { result ≡ of_kind kind marks.now }
 {
-    let mut n: usize = 0;
-    let mut i: usize = 0;
-    while i < marks.len() {
-        n += one_if(marks[i], kind);
-        i += 1;
-    }
-    n
+    marks.iter().filter(|mark| **mark == kind).count()
 }
 
 // '14 bags: 11 modelled, 2 fixed, 1 mixed, 0 none'
@@ -69,10 +56,8 @@ fn in_millionths(done: u32, of: u32) -> u64
 
 // Six digits, zeros before them.
 fn print_six(n: u64) {
-    let mut place: u64 = 100000;
-    while 0 < place {
+    for place in [100000, 10000, 1000, 100, 10, 1] {
         io::print_decimal(STDOUT_FILENO, n / place % 10);
-        place /= 10;
     }
 }
 

@@ -2,8 +2,7 @@
 // of each kind, and each row's share; or the one line of a refusal.
 #![tactic(auto)]
 
-ghost use Rattle.std.specs.Prelude.{◌≡◌, ◌/◌, ◌≤◌, length};
-ghost use Rattle.refusal.specs.declared.Refusal.TheVariants.{None};
+ghost use Rattle.std.specs.Prelude.{None, ◌≡◌, ◌≤◌, length};
 ghost use Rattle.reserve.specs.Check.{table_refusal};
 
 use bagreport::BagReport;
@@ -21,64 +20,39 @@ pub(crate) const STDOUT_FILENO: i32 = 1;
 
 // 'refused 15 row 0'
 fn print_refusal(f: Refusal) {
-    io::write_all(STDOUT_FILENO, b"refused ");
-    io::print_decimal(STDOUT_FILENO, refusal::number(f) as u64);
-    io::write_all(STDOUT_FILENO, b" row ");
-    io::print_decimal(STDOUT_FILENO, refusal::named_row(f) as u64);
+    lines::print_named(b"refused ", f.number() as u64);
+    lines::print_named(b" row ", f.named_row() as u64);
     io::write_all(STDOUT_FILENO, b"\n");
 }
 
 // A line for each bag, and the line that counts them.
-fn print_bags(spans: &[u64], marks: &[u8])
-    requires { length marks.now ≤ length spans.now / 2 }
-{
-    let mut i: usize = 0;
-    while i < marks.len() {
-        lines::print_bag(i + 1, spans[2 * i], spans[2 * i + 1], marks[i]);
-        i += 1;
+fn print_bags(spans: &[u64], marks: &[u8]) {
+    for (i, (span, mark)) in spans.chunks_exact(2).zip(marks).enumerate() {
+        lines::print_bag(i + 1, span[0], span[1], *mark);
     }
     lines::print_kinds(marks);
 }
 
-// A line for each of the first n rows.
-fn print_shares(n: u8, shares: [Share; 16])
-    requires { n ≤ 16 }
+// A line for each row.
+fn print_shares(shares: &[Share])
+    requires { length shares.now ≤ 16 }
 {
-    let mut i: u8 = 0;
-    while i < n {
-        lines::print_share(i + 1, shares[i as usize]);
-        i += 1;
+    for (i, share) in shares.iter().enumerate() {
+        lines::print_share(i as u8 + 1, *share);
     }
 }
 
 // The report's lines, for a table of n rows.
 fn print_report(n: u8, got: BagReport, spans: &[u64], marks: &[u8])
-    requires { (n ≤ 16) × (length marks.now ≤ length spans.now / 2) }
+    requires { n ≤ 16 }
 {
-    let f = got.refusal;
-    let shares = got.shares;
-    match f {
-        Refusal::None => {
+    match got.refusal {
+        None => {
             print_bags(spans, marks);
-            print_shares(n, shares);
+            print_shares(&got.shares[..n as usize]);
         }
-        _ => print_refusal(f),
+        Some(f) => print_refusal(f),
     }
-}
-
-// Lends the first places of a longer piece, one for each pair.
-fn lend_marks(
-    t: Table,
-    reports: &[u8],
-    row: u8,
-    spans: &[u64],
-    marks: &mut [u8],
-    pairs: usize,
-) -> BagReport
-    requires { pairs ≤ length marks.old }
-    ensures { length marks.new ≡ length marks.old }
-{
-    bagreport::report(t, reports, row, spans, &mut marks[..pairs])
 }
 
 // An order on a table that is accepted.
@@ -86,34 +60,28 @@ fn report_on(t: Table, reports: &[u8], row: u8, spans: &[u64])
     requires { (table_refusal t ≡ None) × (length spans.now ≤ 2048) }
 {
     let mut marks = [0u8; 1024];
-    let pairs = spans.len() / 2;
-    let got = lend_marks(t, reports, row, spans, &mut marks, pairs);
-    print_report(t.n, got, spans, &marks[..pairs]);
+    let marks = &mut marks[..spans.len() / 2];
+    let got = bagreport::report(t, reports, row, spans, marks);
+    print_report(t.n, got, spans, marks);
 }
 
 // The answer to an order.
 fn answer(order: &[u8]) {
     let n = form::numbers(order);
     let mut spans = [0u64; 2048];
-    form::fill_spans(order, n, &mut spans);
+    form::fill_spans(order, &mut spans[..n]);
     let head = 3 + 8 * n;
     let size = form::word(order, head) as usize;
-    let from = form::no_later(head + 2, order.len());
-    let to = form::no_later(head + 2 + size, order.len());
-    let reading = tablefile::read(&order[from..to]);
-    let f = reading.refusal;
-    match f {
-        Refusal::None => report_on(
-            reading.table,
-            &order[to..],
-            form::byte(order, 0),
-            &spans[..n],
-        ),
-        _ => print_refusal(f),
+    let from = (head + 2).min(order.len());
+    let to = (head + 2 + size).min(order.len());
+    match tablefile::read(&order[from..to]) {
+        Ok(t) => report_on(t, &order[to..], form::byte(order, 0), &spans[..n]),
+        Err(f) => print_refusal(f),
     }
 }
 
 // An order has room for 1,024 bags, any table file and 1,000,000 reports; what comes after them is not read.
+// A function of its own, since the checker ran out of stack where `main` wrote this array in place.
 fn order_room() -> [u8; 1081926]
     ensures { 1081926 ≡ length result }
 {

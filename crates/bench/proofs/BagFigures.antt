@@ -1,18 +1,14 @@
 -- The figures of a bag report's answer.
 -- Assumes nothing.
-use mathlib.Core.Path.{◌≡◌, refl, sym, ◌∙◌}
-use Prim.Native.Nat.{ℕ, ◌+◌, ◌*◌, ◌<◌, ◌≤◌}
+use mathlib.Core.Path.{◌≡◌, sym, ◌∙◌}
+use Prim.Native.Nat.{ℕ, ◌<◌, ◌≤◌}
 use borrow.Author.Tests.{lt-ltb, le-ltb}
 use lib.Ieee.{nan}
 use lib.ListN.{get_or, get_or-map}
-use Rattle.refusal.specs.Numbers.{number_of}
+use Rattle.refusal.specs.Numbers.{number_told}
 use Rattle.share.specs.declared.Share.{Share}
 use Rattle.bagreport.specs.declared.BagReport.{BagReport}
 use Rattle.bench.specs.Bags.{counts_number, bag_figure}
-
-pub share_of_lem : (s : Share) → s.done * 4294967296 + s.of ≡ counts_number s
-unfolding counts_number
-share_of_lem s = refl
 
 -- what a reading past an array would answer: both its counts are 0
 abbrev unread : Share
@@ -23,6 +19,6 @@ module _ (got : BagReport) (i n : ℕ) where
   unfolding bag_figure counts_number
   figure_share l e = rw (lt-ltb i 16 l) (e ∙ sym (get_or-map counts_number got.shares i unread))
 
-  pub figure_refusal : 16 ≤ i → n ≡ number_of got.refusal → n ≡ bag_figure got i
+  pub figure_refusal : 16 ≤ i → n ≡ number_told got.refusal → n ≡ bag_figure got i
   unfolding bag_figure
   figure_refusal l e = rw (le-ltb i 16 l) e

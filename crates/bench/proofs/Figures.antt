@@ -1,12 +1,11 @@
 -- The figures of a run's answer.
 -- Assumes nothing.
-use mathlib.Core.Path.{◌≡◌, refl, ap, ◌∙◌}
+use mathlib.Core.Path.{◌≡◌, refl}
 use Prim.Native.Nat.{ℕ, ◌+◌, ◌*◌, ◌<◌, ◌≤◌}
 use native.Mathlib.Omega.{arith}
 use borrow.Author.Tests.{lt-ltb, le-ltb}
 use Rattle.slots.specs.declared.State.{State}
 use Rattle.slots.specs.declared.State.TheVariants.{Waiting, Failed, Done}
-use Rattle.slots.specs.declared.Job.{Job}
 use Rattle.slots.specs.declared.Ran.{Ran}
 use Rattle.slots.specs.Records.{job_at}
 use Rattle.bench.specs.Numbers.{state_number, job_number, figure_of}
@@ -33,10 +32,6 @@ number_few Done = omega arith
 pub number_fits : (l u n : ℕ) (s : State) → l < 65536 → u < 65536 → n ≡ state_number s → (l * 65536 + u) * 3 + n < 18446744073709551616
 number_fits l u n s a b e = omega (arith, e, number_few s)
 
-pub number_of : (j : Job) (n : ℕ) → n ≡ state_number j.state → (j.left * 65536 + j.run) * 3 + n ≡ job_number j
-unfolding job_number
-number_of j n e = ap (λ (x : ℕ). (j.left * 65536 + j.run) * 3 + x) e
-
 -- a figure of a run's answer
 pub figure_job : (ran : Ran) (i n : ℕ) → i < 16 → n ≡ job_number (job_at ran.next.jobs i) → n ≡ figure_of ran i
 unfolding figure_of
@@ -49,6 +44,3 @@ figure_clock ran i l u = rw (le-ltb i 16 l) (rw (lt-ltb i 17 u) refl)
 pub figure_slots : (ran : Ran) (i : ℕ) → 16 ≤ i → 17 ≤ i → ran.slots ≡ figure_of ran i
 unfolding figure_of
 figure_slots ran i l u = rw (le-ltb i 16 l) (rw (le-ltb i 17 u) refl)
-
-pub ran_figure : (ran other : Ran) (i n : ℕ) → ran ≡ other → n ≡ figure_of ran i → n ≡ figure_of other i
-ran_figure ran other i n e h = h ∙ ap (λ (x : Ran). figure_of x i) e

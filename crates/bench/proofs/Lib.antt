@@ -1,4 +1,3 @@
-pub mod AtOnce
 pub mod OneByOne
 pub mod Figures
 pub mod EvenBags

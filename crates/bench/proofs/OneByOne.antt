@@ -1,25 +1,25 @@
 -- A list of reports by single slots, as the loop over it meets it.
 -- Assumes nothing.
 use mathlib.Core.Path.{◌≡◌, refl, sym, ap, ap₂, ◌∙◌}
+use mathlib.Core.Bool.{Bool, true, false}
 use mathlib.Core.List.{List, [], ◌∷◌, ◌++◌, append_assoc, append-nil}
 use Prim.Native.Nat.{ℕ, ◌+◌, ◌≤◌, ◌<◌}
 use native.Mathlib.Omega.{arith}
 use native.Mathlib.Numerals.{add-one}
 use lib.ListN.{length, get_or, set, drop, length-append, length-drop, drop_of_length-le}
 use lib.Seq.{drop-cons, set-append_seam}
-use Rattle.refusal.specs.declared.Refusal.TheVariants.{None}
+use Rattle.std.proofs.lemmas.Bool.{false≢true}
+use Rattle.std.specs.Option.{is_some}
+use Rattle.std.specs.Prelude.{Option, Some, None}
+use Rattle.refusal.specs.declared.Refusal.{Refusal}
 use Rattle.refusal.specs.Order.{accepted}
-use Rattle.refusal.proofs.Order.{Told, refused}
 use Rattle.table.specs.declared.Table.{Table}
-use Rattle.tablefile.specs.declared.Reading.{Reading}
-use Rattle.tablefile.specs.Answers.{read_as}
 use Rattle.slots.specs.declared.Record.{Record}
 use Rattle.slots.specs.declared.Started.{Started}
 use Rattle.slots.specs.declared.Stepped.{Stepped}
 use Rattle.slots.specs.Records.{started_for}
 use Rattle.slots.specs.Answers.{stepped_by}
-use Rattle.bench.specs.Lists.{singles, single_slots, single_log}
-use Rattle.bench.proofs.AtOnce.{is_table, is_start}
+use Rattle.bench.specs.Lists.{table_in, start_in, singles, single_slots, single_log}
 
 -- ---- single slots, case by case
 singles_no_reports : (t : Table) (q : Record) (old : List ℕ) → singles t q [] old ≡ []
@@ -36,9 +36,14 @@ module _ (t : Table) (q : Record) (rep : ℕ) (reps : List ℕ) (b : ℕ) (old :
   unfolding singles
   singles_on d = rw (sym e, ap accepted d) refl
 
-  singles_stop : Told s.refusal → singles t q (rep ∷ reps) (b ∷ old) ≡ []
+  singles_stop : accepted s.refusal ≡ false → singles t q (rep ∷ reps) (b ∷ old) ≡ []
   unfolding singles
-  singles_stop p = rw (sym e, refused s.refusal p) refl
+  singles_stop p = rw (sym e, p) refl
+
+-- a refusal that the code has seen
+told : (f : Option Refusal) → is_some f ≡ true → accepted f ≡ false
+told None e = absurd (false≢true e)
+told (Some f) e = refl
 
 -- the first of what is left of a list
 first : (xs : List ℕ) (i : ℕ) → i < length xs → drop i xs ≡ get_or xs i 0 ∷ drop (i + 1) xs
@@ -46,20 +51,14 @@ first xs i l = rw add-one (drop-cons xs i 0 l)
 
 -- ---- the loop: the bytes of the accepted slots stand in the log, and the slots left give the rest
 pub record Going (t : Table) (start : Record) (reps old log : List ℕ) (q : Record) (i : ℕ) : Type 0 where
-  pub within : i ≤ length reps
   pub room : i ≤ length old
-  pub sixteen : length q.jobs ≡ 16
   pub bytes : List ℕ
   pub count : length bytes ≡ i
   pub is_log : log ≡ bytes ++ drop i old
   pub rest : singles t start reps old ≡ bytes ++ singles t q (drop i reps) (drop i old)
 
-pub going_start : (t : Table) (q : Record) → length q.jobs ≡ 16 → (reps old : List ℕ) → Going t q reps old old q 0
-going_start t q e reps old =
-    record { within = omega arith; room = omega arith; sixteen = e; bytes = []; count = refl; is_log = refl; rest = refl }
-
 module _ {t : Table} {start : Record} {reps old log : List ℕ} {q : Record} {i : ℕ} (g : Going t start reps old log q i) where
-  pub going_size : length log ≡ length old
+  going_size : length log ≡ length old
   going_size = ap length g.is_log ∙ length-append g.bytes (drop i old) ∙ omega (arith, g.count, length-drop i old, g.room)
 
   -- both lists go on
@@ -70,11 +69,9 @@ module _ {t : Table} {start : Record} {reps old log : List ℕ} {q : Record} {i 
       ∙ ap₂ (λ (x y : List ℕ). g.bytes ++ singles t q x y) (first reps i l) (first old i (omega (arith, going_size)))
 
   module _ (l : i < length reps) (m : i < length log) (s : Stepped) (e : s ≡ stepped_by t q (get_or reps i 0)) where
-    pub going_step : s.refusal ≡ None → length s.next.jobs ≡ 16 → Going t start reps old (set log i s.ran) s.next (i + 1)
-    going_step d k = record {
-      within = omega arith;
+    pub going_step : s.refusal ≡ None → Going t start reps old (set log i s.ran) s.next (i + 1)
+    going_step d = record {
       room = omega (arith, going_size);
-      sixteen = k;
       bytes = g.bytes ++ s.ran ∷ [];
       count = length-append g.bytes (s.ran ∷ []) ∙ omega (arith, g.count);
       is_log = wrote;
@@ -93,7 +90,7 @@ module _ {t : Table} {start : Record} {reps old log : List ℕ} {q : Record} {i 
             ∙ ap (λ (x : List ℕ). g.bytes ++ x) (singles_on t q (get_or reps i 0) (drop (i + 1) reps) (get_or old i 0) (drop (i + 1) old) s e d)
             ∙ sym (append_assoc g.bytes (s.ran ∷ []) (singles t s.next (drop (i + 1) reps) (drop (i + 1) old)))
 
-    stops : Told s.refusal → singles t start reps old ≡ g.bytes
+    stops : accepted s.refusal ≡ false → singles t start reps old ≡ g.bytes
     stops p =
         ahead l m
         ∙ ap (λ (x : List ℕ). g.bytes ++ x) (singles_stop t q (get_or reps i 0) (drop (i + 1) reps) (get_or old i 0) (drop (i + 1) old) s e p)
@@ -115,13 +112,17 @@ module _ {t : Table} {start : Record} {reps old log : List ℕ} {q : Record} {i 
       ∙ append-nil g.bytes
 
 -- ---- what the loop leaves, over the file
-module _ (file : List ℕ) (r : Reading) (e : r ≡ read_as file) (s : Started) (d : s ≡ started_for r.table) {reps old log : List ℕ} {q : Record} {i : ℕ} (g : Going r.table s.start reps old log q i) where
-  over : single_slots file reps old ≡ singles r.table s.start reps old
+module _ (file : List ℕ) (t : Table) (e : t ≡ table_in file) (s : Started) (d : s ≡ started_for t) {reps old log : List ℕ} {q : Record} {i : ℕ} (g : Going t s.start reps old log q i) where
+  is_start : s.start ≡ start_in file
+  unfolding start_in
+  is_start = ap (λ (x : Started). x.start) (d ∙ ap started_for e)
+
+  over : single_slots file reps old ≡ singles t s.start reps old
   unfolding single_slots
-  over = sym (ap₂ (λ (t : Table) (x : Record). singles t x reps old) (is_table file r e) (is_start file r e s d))
+  over = sym (ap₂ (λ (y : Table) (x : Record). singles y x reps old) e is_start)
 
   -- the bytes so far are all there are
-  module _ (h : singles r.table s.start reps old ≡ g.bytes) where
+  module _ (h : singles t s.start reps old ≡ g.bytes) where
     all_slots : i ≡ length (single_slots file reps old)
     all_slots = sym (ap length (over ∙ h) ∙ g.count)
 
@@ -129,12 +130,12 @@ module _ (file : List ℕ) (r : Reading) (e : r ≡ read_as file) (s : Started) 
     unfolding single_log
     all_log = g.is_log ∙ ap₂ (λ (x : List ℕ) (k : ℕ). x ++ drop k old) (sym (over ∙ h)) all_slots
 
-  module _ (l : i < length reps) (m : i < length log) (x : Stepped) (y : x ≡ stepped_by r.table q (get_or reps i 0)) (p : Told x.refusal) where
+  module _ (l : i < length reps) (m : i < length log) (x : Stepped) (y : x ≡ stepped_by t q (get_or reps i 0)) (b : Bool) (w : b ≡ is_some x.refusal) (p : b ≡ true) where
     pub stops_slots : i ≡ length (single_slots file reps old)
-    stops_slots = all_slots (stops g l m x y p)
+    stops_slots = all_slots (stops g l m x y (told x.refusal (sym w ∙ p)))
 
     pub stops_log : log ≡ single_log file reps old
-    stops_log = all_log (stops g l m x y p)
+    stops_log = all_log (stops g l m x y (told x.refusal (sym w ∙ p)))
 
   module _ (u : length log ≤ i) where
     pub full_slots : i ≡ length (single_slots file reps old)
@@ -143,9 +144,9 @@ module _ (file : List ℕ) (r : Reading) (e : r ≡ read_as file) (s : Started) 
     pub full_log : log ≡ single_log file reps old
     full_log = all_log (out_of_room g u)
 
-  module _ (u : length reps ≤ i) where
-    pub ends_slots : i ≡ length (single_slots file reps old)
-    ends_slots = all_slots (ends g u)
+  module _ (u : length reps ≤ i) (v : i ≤ length reps) where
+    pub ends_slots : length reps ≡ length (single_slots file reps old)
+    ends_slots = let all : length reps ≡ i = omega arith in all ∙ all_slots (ends g u)
 
     pub ends_log : log ≡ single_log file reps old
     ends_log = all_log (ends g u)

@@ -1,7 +1,7 @@
 -- The bag report over bags of the same size, and its answer as numbers, for one that reads it from outside.
 -- Assumes nothing: these are definitions.
 use Rattle.std.specs.Prelude.{ℕ, zero, suc, ◌+◌, ◌*◌, min, cond, List, [], ◌∷◌, ◌++◌, map, ltb, length, get_or}
-use Rattle.refusal.specs.Numbers.{number_of}
+use Rattle.refusal.specs.Numbers.{number_told}
 use Rattle.share.specs.declared.Share.{Share}
 use Rattle.bagreport.specs.declared.BagReport.{BagReport}
 use Rattle.bagreport.specs.Answers.{report_of, marks_after}
@@ -27,6 +27,6 @@ even_marks file reps row size old = marks_after (table_in file) reps row (asked_
 unfoldable pub counts_number : Share → ℕ
 counts_number s = s.done * 4294967296 + s.of
 
--- place i's counts, and past the sixteen places the refusal's number
+-- place i's counts, and past the sixteen places the refusal's number, 0 where nothing is refused
 unfoldable pub bag_figure : BagReport → ℕ → ℕ
-bag_figure got i = cond (ltb i 16) (get_or (map counts_number got.shares) i 0) (number_of got.refusal)
+bag_figure got i = cond (ltb i 16) (get_or (map counts_number got.shares) i 0) (number_told got.refusal)

@@ -3,16 +3,16 @@
 use Rattle.std.specs.Prelude.{ℕ, cond, List, [], ◌∷◌, ◌++◌, length, drop}
 use Rattle.refusal.specs.Order.{accepted}
 use Rattle.table.specs.declared.Table.{Table}
-use Rattle.tablefile.specs.Answers.{read_as}
+use Rattle.tablefile.specs.Answers.{read_as, hands_back}
 use Rattle.slots.specs.declared.Record.{Record}
 use Rattle.slots.specs.declared.Stepped.{Stepped}
 use Rattle.slots.specs.declared.Ran.{Ran}
 use Rattle.slots.specs.Records.{started_for}
 use Rattle.slots.specs.Answers.{stepped_by, ran_by, log_after, buffer_after}
 
--- the table of a file; that of a refused file is refused in turn
+-- the table of a file; for a refused file that of zeros, which is refused in turn
 unfoldable pub table_in : List ℕ → Table
-table_in file = (read_as file).table
+table_in file = hands_back (read_as file)
 
 unfoldable pub start_in : List ℕ → Record
 start_in file = (started_for (table_in file)).start

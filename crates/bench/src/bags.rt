@@ -1,18 +1,11 @@
 // The bag report over bags of the same size, and the figures of its answer.
-ghost use Rattle.std.specs.Prelude.{◌≡◌, ◌*◌, ◌≤◌, min, length, take};
+ghost use Rattle.std.specs.Prelude.{◌≡◌, ◌*◌, ◌≤◌, length, take};
 ghost use Rattle.bagreport.specs.Answers.{report_of, marks_after};
 ghost use Rattle.bench.specs.Bags.{even_spans, asked_spans, counts_number, bag_figure};
 
 use bagreport::BagReport;
 use share::Share;
 use table::Table;
-
-// How many bags so many lent bytes are for.
-fn bags_for(bytes: usize) -> usize
-    ensures { result ≡ min bytes 1024 }
-{
-    if bytes < 1024 { bytes } else { 1024 }
-}
 
 // Where bag j starts, and the bag before it ends.
 fn edge(j: usize, size: u16) -> u64
@@ -27,26 +20,27 @@ fn fill_spans(spans: &mut [u64], n: usize, size: u16)
     requires { (n ≤ 1024) × (length spans.old ≡ 2048) }
     ensures { take (2 * n) spans.new ≡ even_spans size n }
 {
-    let mut j: usize = 0;
-    while j < n {
+    // By index: a proof knows no element of a slice that `chunks_exact_mut` has lent out (tried).
+    for j in 0..n {
         spans[2 * j] = edge(j, size);
         spans[2 * j + 1] = edge(j + 1, size);
-        j += 1;
     }
 }
 
 // The report on as many bags as there are lent bytes for.
+#[tactic(auto, unfolding(crate::specs::Bags::asked_spans))]
 pub(crate) fn report_on(t: Table, reports: &[u8], row: u8, size: u16, marks: &mut [u8]) -> BagReport
     ensures answer { result ≡ report_of t reports.now row (asked_spans size marks.old) marks.old }
     ensures bytes { marks.new ≡ marks_after t reports.now row (asked_spans size marks.old) marks.old }
 {
     let mut spans = [0u64; 2048];
-    let n = bags_for(marks.len());
+    let n = marks.len().min(1024);
     fill_spans(&mut spans, n, size);
     bagreport::report(t, reports, row, &spans[..2 * n], marks)
 }
 
 // A place's two counts as one number.
+#[tactic(auto, unfolding(crate::specs::Bags::counts_number))]
 fn counts_number(s: Share) -> u64
     ensures { result ≡ counts_number s }
 {
@@ -57,11 +51,9 @@ fn counts_number(s: Share) -> u64
 pub(crate) fn figure(got: BagReport, i: usize) -> u64
     ensures { result ≡ bag_figure got i }
 {
-    let f = got.refusal;
-    let shares = got.shares;
     if i < 16 {
-        counts_number(shares[i])
+        counts_number(got.shares[i])
     } else {
-        refusal::number(f) as u64
+        got.refusal.map_or(0, |f| f.number() as u64)
     }
 }

@@ -3,25 +3,31 @@
 
 ghost use Rattle.std.specs.Prelude.{◌≡◌, length};
 ghost use Rattle.bench.specs.Bags.{even_report, even_marks, bag_figure};
-ghost use Rattle.bench.specs.Lists.{list_ran, list_log, list_buffer, single_slots, single_log};
+ghost use Rattle.bench.specs.Lists.{table_in, list_ran, list_log, list_buffer, single_slots, single_log};
 ghost use Rattle.bench.specs.Numbers.{state_number, job_number, figure_of};
 
-use refusal::Refusal;
 use slots::{Job, Ran, State};
+use table::Table;
 
 mod bags;
 
+// The table of a file, or the table of zeros for a file that is refused.
+#[tactic(auto, unfolding(crate::specs::Lists::table_in))]
+fn table_in(file: &[u8]) -> Table
+    ensures { result ≡ table_in file.now }
+{
+    tablefile::or_zeros(tablefile::read(file))
+}
+
 // The run of a list over the table of a file.
+#[tactic(auto, unfolding(crate::specs::Lists::start_in, crate::specs::Lists::list_ran, crate::specs::Lists::list_log, crate::specs::Lists::list_buffer))]
 fn run(file: &[u8], reports: &[u8], log: &mut [u8], buffer: &mut [u8]) -> Ran
     ensures answer { result ≡ list_ran file.now reports.now log.old buffer.old }
     ensures bytes { log.new ≡ list_log file.now reports.now log.old buffer.old }
     ensures buffer { buffer.new ≡ list_buffer file.now reports.now log.old buffer.old }
 {
-    let read = tablefile::read(file);
-    let t = read.table;
-    let started = slots::fresh(t);
-    let q = started.start;
-    q.run(t, reports, log, buffer)
+    let t = table_in(file);
+    slots::fresh(t).start.run(t, reports, log, buffer)
 }
 
 // A state as a number.
@@ -36,23 +42,21 @@ fn state_number(state: State) -> u64
 }
 
 // A row's job as a number.
+#[tactic(auto, unfolding(crate::specs::Numbers::job_number))]
 fn job_number(j: Job) -> u64
     ensures { result ≡ job_number j }
 {
-    let state = j.state;
-    let number = state_number(state);
-    (j.left as u64 * 65536 + j.run as u64) * 3 + number
+    (j.left as u64 * 65536 + j.run as u64) * 3 + state_number(j.state)
 }
 
 // One figure of a run's answer: row i's job for an i below 16, the clock for 16, the slots accepted for any other.
 fn figure(ran: Ran, i: usize) -> u64
     ensures { result ≡ figure_of ran i }
 {
-    let q = ran.next;
     if i < 16 {
-        job_number(q.jobs[i])
+        job_number(ran.next.jobs[i])
     } else if i < 17 {
-        q.clock as u64
+        ran.next.clock as u64
     } else {
         ran.slots as u64
     }
@@ -73,34 +77,25 @@ pub fn bench_steps(file: &[u8], reports: &[u8], log: &mut [u8]) -> usize
     ensures slots { result ≡ length (single_slots file.now reports.now log.old) }
     ensures bytes { log.new ≡ single_log file.now reports.now log.old }
 {
-    let read = tablefile::read(file);
-    let t = read.table;
-    let started = slots::fresh(t);
-    let mut q = started.start;
-    let mut i: usize = 0;
-    while i < reports.len() {
+    let t = table_in(file);
+    let mut q = slots::fresh(t).start;
+    for (i, report) in reports.iter().enumerate() {
         if log.len() <= i {
             return i;
         }
-        let stepped = q.step(t, reports[i]);
-        let f = stepped.refusal;
-        match f {
-            Refusal::None => {
-                log[i] = stepped.ran;
-                let next = stepped.next;
-                q = next;
-                i += 1;
-            }
-            _ => {
-                return i;
-            }
+        let stepped = q.step(t, *report);
+        if stepped.refusal.is_some() {
+            return i;
         }
+        log[i] = stepped.ran;
+        q = stepped.next;
     }
-    i
+    reports.len()
 }
 
 // The bag report over bags of the same size, one after the other from slot 0, as many as there are lent bytes, at most 1,024. Answers one figure of it: a place's two counts for an
 // i below 16, the refusal's number for any other.
+#[tactic(auto, unfolding(crate::specs::Bags::even_report, crate::specs::Bags::even_marks))]
 pub fn bench_bags(
     file: &[u8],
     reports: &[u8],
@@ -112,7 +107,6 @@ pub fn bench_bags(
     ensures figure { result ≡ bag_figure (even_report file.now reports.now row size marks.old) i }
     ensures bytes { marks.new ≡ even_marks file.now reports.now row size marks.old }
 {
-    let read = tablefile::read(file);
-    let got = bags::report_on(read.table, reports, row, size, marks);
+    let got = bags::report_on(table_in(file), reports, row, size, marks);
     bags::figure(got, i)
 }

@@ -1,7 +1,8 @@
 -- Document 01's examples, P1 to P11, as one table of cases, each told by the definitions that the public contracts cite.
 -- Assumes nothing: these are definitions.
 use Rattle.std.specs.Prelude.{ℕ, suc, ◌-◌, ◌*◌, ◌/◌, ◌≡◌, cond, List, [], ◌∷◌, ◌++◌, eqb, length, replicate}
-use Rattle.refusal.specs.Numbers.{number_of, row_of}
+use Rattle.std.specs.Result.{result_err, result_unwrap_or}
+use Rattle.refusal.specs.Numbers.{number_told, row_told}
 use Rattle.table.specs.declared.Row.{Row}
 use Rattle.table.specs.declared.Table.{Table}
 use Rattle.table.specs.Rows.{used, row_at, cycle_of}
@@ -10,7 +11,7 @@ use Rattle.reserve.specs.Tables.{ends}
 use Rattle.reserve.specs.Check.{table_check}
 use Rattle.reserve.specs.Lists.{reservation_list, first_slots}
 use Rattle.tablefile.specs.Layout.{file_bytes, padded}
-use Rattle.tablefile.specs.Answers.{read_as}
+use Rattle.tablefile.specs.Answers.{hands_back, read_as}
 use Rattle.slots.specs.declared.State.{State}
 use Rattle.slots.specs.declared.State.TheVariants.{Waiting}
 use Rattle.slots.specs.declared.Job.{Job}
@@ -86,16 +87,16 @@ first_after rs reps i =
 -- what a case claims
 unfoldable pub Claim : Case → Type 0
 Claim (checked rs n k c) =
-    (number_of (table_check (table rs)).refusal ≡ n) × (row_of (table_check (table rs)).refusal ≡ k) × ((table_check (table rs)).cycle ≡ c)
+    (number_told (result_err (table_check (table rs))) ≡ n) × (row_told (result_err (table_check (table rs))) ≡ k) × (result_unwrap_or (table_check (table rs)) 0 ≡ c)
 Claim (cycling rs c) = cycle_of (used (table rs)) ≡ c
 Claim (loading rs m c) = (needed (used (table rs)) ≡ m) × (cycle_of (used (table rs)) ≡ c)
 Claim (starting rs xs) = first_slots (used (table rs)) ≡ xs
 Claim (holding rs k xs) = places k 0 (reservation_list (used (table rs))) ≡ xs
-Claim (reading s n rs) = (number_of (read_as s).refusal ≡ n) × ((read_as s).table.n ≡ length rs) × ((read_as s).table.rows ≡ (table rs).rows)
+Claim (reading s n rs) = (number_told (result_err (read_as s)) ≡ n) × ((hands_back (read_as s)).n ≡ length rs) × ((hands_back (read_as s)).rows ≡ (table rs).rows)
 Claim (writing rs s) = file_bytes (table rs) ≡ s
-Claim (running rs reps n m log) = (number_of (from_fresh rs reps).refusal ≡ n) × ((from_fresh rs reps).slots ≡ m) × (log_from_fresh rs reps ≡ log)
+Claim (running rs reps n m log) = (number_told (from_fresh rs reps).refusal ≡ n) × ((from_fresh rs reps).slots ≡ m) × (log_from_fresh rs reps ≡ log)
 Claim (moving rs reps k s) = first_after rs reps (k - 1) ≡ s
-Claim (asking rs q n) = number_of (asked_of (table rs) q).refusal ≡ n
+Claim (asking rs q n) = number_told (result_err (asked_of (table rs) q)) ≡ n
 
 -- each case of a list
 unfoldable pub Each : List Case → Type 0

@@ -1,5 +1,6 @@
 -- How one job was dosed: its ending, read slot by slot, says what demand 3's words say of it.
 -- Assumes nothing.
+use Rattle.std.specs.Prelude.{None}
 use mathlib.Core.Path.{◌≡◌, refl, sym, ap, ◌∙◌, subst}
 use mathlib.Core.Logic.{◌⊎◌, inl, inr, ◌↔◌, ⊎_elim}
 use mathlib.Core.Bool.{Bool, true, false, cond}
@@ -10,7 +11,6 @@ use native.Mathlib.Omega.{arith}
 use borrow.Author.Tests.{eqb-true, eq-eqb}
 use lib.Dec.{eqb}
 use lib.ListN.{length}
-use Rattle.refusal.specs.declared.Refusal.TheVariants.{None}
 use Rattle.table.specs.declared.Row.{Row}
 use Rattle.table.specs.Rows.{row_at}
 use Rattle.table.specs.Windows.{opens, closes}

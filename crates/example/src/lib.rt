@@ -11,6 +11,5 @@ use table::Table;
 pub fn fixed_dose_runs(t: Table, q: Record) -> bool
     ensures { result ≡ fixed_dose t q }
 {
-    let asked = q.what_runs(t);
-    16 < asked.ran
+    16 < q.what_runs(t).unwrap_or(0)
 }

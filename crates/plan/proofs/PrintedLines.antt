@@ -1,23 +1,23 @@
 -- The lines: each stands where its job's first slot stands, and a look from the first row on finds it.
 -- Assumes nothing.
 use mathlib.Core.Path.{◌≡◌, refl, sym, ap, ◌∙◌}
+use mathlib.Core.Logic.{⊎_elim}
 use mathlib.Core.List.{List, ◌∷◌, ◌++◌, map, map-append}
-use Prim.Native.Nat.{ℕ, zero, suc, ◌+◌, ◌-◌, ◌*◌, ◌/◌, ◌≤◌, ◌<◌, ◌^◌}
-use native.Mathlib.Nat.{div-le_self}
+use Prim.Native.Nat.{ℕ, zero, suc, ◌+◌, ◌-◌, ◌/◌, ◌≤◌, ◌<◌}
 use native.Mathlib.Numerals.{add-one}
 use native.Mathlib.Omega.{arith}
-use lib.ListN.{length, get_or, length-take, length-map, get_or-append, get_or-map}
+use lib.ListN.{length, get_or, take, length-take, length-map, get_or-append, get_or-map, get_or-eq_default}
 use lib.Seq.{get_or-append-add, get_or-take}
 use Rattle.table.specs.declared.Row.{Row}
 use Rattle.table.specs.declared.Table.{Table}
-use Rattle.table.specs.Rows.{used, blank, row_at}
+use Rattle.table.specs.Rows.{used, row_at}
 use Rattle.table.specs.Windows.{opens}
 use Rattle.rule.specs.Rule.{first}
+use Rattle.rule.proofs.Tests.{side}
 use Rattle.reserve.specs.Tables.{ends, whole}
 use Rattle.reserve.specs.Lists.{jobs_of, job_firsts, row_firsts, first_slots}
 use Rattle.reserve.specs.Turns.{Ready}
-use Rattle.reserve.proofs.Ready.{cycle_fits, size}
-use Rattle.reserve.proofs.Scanning.{CountedTo, jobs_are, count_start, count_step, count_room}
+use Rattle.reserve.proofs.Ready.{good}
 use Rattle.plan.specs.declared.Line.{Line}
 use Rattle.plan.specs.Lines.{job_lines, row_lines, plan_lines, no_line, Begins}
 
@@ -69,77 +69,62 @@ module _ (rs : List Row) where
       ap (λ (y : ℕ). get_or (own ++ row_lines rs (suc i) n) y no_line) e ∙ get_or-append-add own (row_lines rs (suc i) n) (x - jobs_of rs i) no_line
 
 -- ---- the look for line k, with the rows before row i passed over and `left` lines to go in the rest
-pub record Looking (t : Table) (k left i : ℕ) : Type 0 where
-  pub counted : CountedTo t i (k - left)
-  pub small : left ≤ k
-  pub same : get_or (plan_lines (used t)) k no_line ≡ get_or (row_lines (used t) i (t.n - i)) left no_line
+pub record Looking (rs : List Row) (k left i : ℕ) : Type 0 where
+  pub same : get_or (plan_lines rs) k no_line ≡ get_or (row_lines rs i (length rs - i)) left no_line
 
-module _ {t : Table} {cycle : ℕ} (r : Ready t cycle) (e : length t.rows ≡ 16) where
-  pub look_start : (k : ℕ) → Looking t k k 0
-  unfolding plan_lines
-  look_start k =
-      let z : k - k ≡ 0 = omega arith in
-      let n : length (used t) ≡ t.n - 0 = omega (arith, size r e) in
-      record { counted = rw z (count_start r e); small = omega arith; same = ap (λ (m : ℕ). get_or (row_lines (used t) 0 m) k no_line) n }
+pub look_start : (rs : List Row) (k : ℕ) → Looking rs k k 0
+unfolding plan_lines
+look_start rs k = let n : length rs ≡ length rs - 0 = omega arith in record { same = ap (λ (m : ℕ). get_or (row_lines rs 0 m) k no_line) n }
 
-  module _ {k left i : ℕ} (g : Looking t k left i) (l : i < t.n) where
-    abbrev jobs : ℕ
-    jobs = cycle / (get_or t.rows i blank).period
+-- the code's rows are the table's
+module _ {t : Table} {cycle : ℕ} (r : Ready t cycle) {rs : List Row} (u : rs ≡ used t) where
+  module _ {i : ℕ} (l : i < length rs) where
+    pub period_here : 0 < (row_at rs i).period
+    period_here = let g = good r i (omega (arith, ap length u)) in rw u g.period
 
-    are : jobs ≡ jobs_of (used t) i
-    are = jobs_are r e i l
+    are : cycle / (row_at rs i).period ≡ jobs_of rs i
+    unfolding jobs_of
+    are = rw u (rw r.is_cycle)
 
-    rest : t.n - i ≡ suc (t.n - suc i)
-    rest = omega arith
+    module _ {k left : ℕ} (g : Looking rs k left i) where
+      rest : length rs - i ≡ suc (length rs - suc i)
+      rest = omega arith
 
-    pub jobs_fit_word : jobs < 2 ^ 64
-    jobs_fit_word = omega (arith, cycle_fits r, div-le_self cycle (get_or t.rows i blank).period)
+      pub look_on : cycle / (row_at rs i).period ≤ left → Looking rs k (left - cycle / (row_at rs i).period) (i + 1)
+      look_on h = record {
+        same = g.same ∙ ap (λ (m : ℕ). get_or (row_lines rs i m) left no_line) rest ∙ later_line rs i (length rs - suc i) left (omega (arith, are)) ∙ rw (are, add-one);
+      }
 
-    pub look_on : jobs ≤ left → Looking t k (left - jobs) (i + 1)
-    look_on h =
-        let q : k - (left - jobs) ≡ k - left + jobs = omega (arith, g.small) in
-        record {
-          counted = rw q (count_step r g.counted l are);
-          small = omega (arith, g.small);
-          same =
-              g.same
-              ∙ ap (λ (m : ℕ). get_or (row_lines (used t) i m) left no_line) rest
-              ∙ later_line (used t) i (t.n - suc i) left (omega (arith, are))
-              ∙ rw (are, add-one);
-        }
+      -- the line is one of row i's
+      module _ (h : left < cycle / (row_at rs i).period) where
+        own : get_or (plan_lines rs) k no_line ≡ get_or (job_lines rs i 1 (jobs_of rs i)) left no_line
+        own = g.same ∙ ap (λ (m : ℕ). get_or (row_lines rs i m) left no_line) rest ∙ own_line rs i (length rs - suc i) left (omega (arith, are))
 
-    -- the line is one of row i's
-    pub job_fits_word : left < jobs → left + 1 < 2 ^ 64
-    job_fits_word h = omega (arith, cycle_fits r, div-le_self cycle (get_or t.rows i blank).period)
+        line : ((get_or (plan_lines rs) k no_line).row ≡ i + 1) × ((get_or (plan_lines rs) k no_line).job ≡ left + 1)
+        line = let found = job_line rs i 1 (jobs_of rs i) left (omega (arith, are)) in rw own (omega (arith, found.0), omega (arith, found.1))
 
-    pub place_fits_word : left < jobs → k * 2 < 2 ^ 64
-    place_fits_word h =
-        let next = count_step r g.counted l are in
-        omega (arith, g.small, next.few_jobs, next.upto, next.few_rows)
+        -- past the last line there is no row
+        within : k < length (first_slots rs)
+        within =
+            ⊎_elim (λ (a : k < length (plan_lines rs)). omega (arith, lines_count rs))
+            (λ (a : length (plan_lines rs) ≤ k). absurd (omega (arith, line.0, ap (λ (x : Line). x.row) (get_or-eq_default (plan_lines rs) no_line {n = k} a))))
+            (side k (length (plan_lines rs)))
 
-    module _ (h : left < jobs) (firsts : List ℕ) (begins : Begins (first_slots (used t)) firsts) where
-      within : k < length (first_slots (used t))
-      within = omega (arith, g.small, count_room r g.counted l are)
+        module _ (firsts : List ℕ) (begins : Begins (first_slots (used t)) firsts) where
+          pub look_room : k < length firsts
+          look_room = omega (arith, within, ap (λ (x : List Row). length (first_slots x)) u, ap length begins, length-take (length (first_slots (used t))) firsts)
 
-      pub look_room : k < length firsts
-      look_room = omega (arith, within, ap length begins, length-take (length (first_slots (used t))) firsts)
+          slot : get_or firsts k 0 ≡ (get_or (plan_lines rs) k no_line).first
+          slot =
+              let b : take (length (first_slots rs)) firsts ≡ first_slots rs = rw u begins in
+              sym (get_or-take (length (first_slots rs)) firsts k 0 within) ∙ ap (λ (x : List ℕ). get_or x k 0) b ∙ line_first rs k
 
-      own : get_or (plan_lines (used t)) k no_line ≡ get_or (job_lines (used t) i 1 (jobs_of (used t) i)) left no_line
-      own = g.same ∙ ap (λ (m : ℕ). get_or (row_lines (used t) i m) left no_line) rest ∙ own_line (used t) i (t.n - suc i) left (omega (arith, are))
-
-      slot : get_or firsts k 0 ≡ (get_or (plan_lines (used t)) k no_line).first
-      slot = sym (get_or-take (length (first_slots (used t))) firsts k 0 within) ∙ ap (λ (x : List ℕ). get_or x k 0) begins ∙ line_first (used t) k
-
-      pub look_found : ◌≡◌ {A = Line} (record { row = i + 1; job = left + 1; first = get_or firsts k 0 }) (get_or (plan_lines (used t)) k no_line)
-      look_found =
-          let found = job_line (used t) i 1 (jobs_of (used t) i) left (omega (arith, are)) in
-          let row : i + 1 ≡ (get_or (plan_lines (used t)) k no_line).row = omega (arith, found.0, ap (λ (x : Line). x.row) own) in
-          let job : left + 1 ≡ (get_or (plan_lines (used t)) k no_line).job = omega (arith, found.1, ap (λ (x : Line). x.job) own) in
-          rw (row, job, slot)
+          pub look_found : ◌≡◌ {A = Line} (record { row = i + 1; job = left + 1; first = get_or firsts k 0 }) (get_or (plan_lines (used t)) k no_line)
+          look_found = let row = sym line.0 in let job = sym line.1 in rw (row, job, slot) (ap (λ (x : List Row). get_or (plan_lines x) k no_line) u)
 
   -- there is no row left
-  pub look_end : {k left i : ℕ} → Looking t k left i → t.n ≤ i → no_line ≡ get_or (plan_lines (used t)) k no_line
+  pub look_end : {k left i : ℕ} → Looking rs k left i → length rs ≤ i → no_line ≡ get_or (plan_lines (used t)) k no_line
   unfolding row_lines
   look_end {k} {left} {i} g h =
-      let z : t.n - i ≡ 0 = omega arith in
-      sym (g.same ∙ ap (λ (m : ℕ). get_or (row_lines (used t) i m) left no_line) z)
+      let z : length rs - i ≡ 0 = omega arith in
+      sym (g.same ∙ ap (λ (m : ℕ). get_or (row_lines rs i m) left no_line) z) ∙ ap (λ (x : List Row). get_or (plan_lines x) k no_line) u

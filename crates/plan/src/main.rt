@@ -1,8 +1,7 @@
 // Reads a table file from standard input and prints the cycle, the number of jobs and each job's first slot, or the one line of a refusal.
 #![tactic(auto)]
 
-ghost use Rattle.std.specs.Prelude.{◌≡◌, length, get_or};
-ghost use Rattle.refusal.specs.declared.Refusal.TheVariants.{None};
+ghost use Rattle.std.specs.Prelude.{None, ◌≡◌, length, get_or};
 ghost use Rattle.table.specs.Rows.{used};
 ghost use Rattle.reserve.specs.Check.{table_refusal};
 ghost use Rattle.reserve.specs.Lists.{first_slots};
@@ -25,31 +24,31 @@ struct Line {
     first: u16,
 }
 
+// A word, and a number after it.
+fn print_named(word: &[u8], n: u64) {
+    io::write_all(STDOUT_FILENO, word);
+    io::print_decimal(STDOUT_FILENO, n);
+}
+
 // 'refused 7 row 2'
 fn print_refusal(f: Refusal) {
-    io::write_all(STDOUT_FILENO, b"refused ");
-    io::print_decimal(STDOUT_FILENO, refusal::number(f) as u64);
-    io::write_all(STDOUT_FILENO, b" row ");
-    io::print_decimal(STDOUT_FILENO, refusal::named_row(f) as u64);
+    print_named(b"refused ", f.number() as u64);
+    print_named(b" row ", f.named_row() as u64);
     io::write_all(STDOUT_FILENO, b"\n");
 }
 
 // 'cycle 30 jobs 11'
 fn print_head(cycle: u16, jobs: usize) {
-    io::write_all(STDOUT_FILENO, b"cycle ");
-    io::print_decimal(STDOUT_FILENO, cycle as u64);
-    io::write_all(STDOUT_FILENO, b" jobs ");
-    io::print_decimal(STDOUT_FILENO, jobs as u64);
+    print_named(b"cycle ", cycle as u64);
+    print_named(b" jobs ", jobs as u64);
     io::write_all(STDOUT_FILENO, b"\n");
 }
 
 // '1 2 9'
 fn print_line(line: Line) {
     io::print_decimal(STDOUT_FILENO, line.row as u64);
-    io::write_all(STDOUT_FILENO, b" ");
-    io::print_decimal(STDOUT_FILENO, line.job as u64);
-    io::write_all(STDOUT_FILENO, b" ");
-    io::print_decimal(STDOUT_FILENO, line.first as u64);
+    print_named(b" ", line.job as u64);
+    print_named(b" ", line.first as u64);
     io::write_all(STDOUT_FILENO, b"\n");
 }
 
@@ -58,21 +57,17 @@ fn line_at(t: Table, cycle: u16, firsts: &[u16], k: usize) -> Line
     requires { Ready t cycle × Begins (first_slots (used t)) firsts.now }
     ensures { result ≡ get_or (plan_lines (used t)) k no_line }
 {
-    let n = t.n;
     let mut left = k;
-    let mut i: u8 = 0;
-    while i < n {
-        let r = t.rows[i as usize];
-        let jobs = (cycle / r.period) as usize;
+    for (i, row) in t.rows().iter().enumerate() {
+        let jobs = (cycle / row.period) as usize;
         if left < jobs {
             return Line {
-                row: i + 1,
+                row: i as u8 + 1,
                 job: left + 1,
                 first: firsts[k],
             };
         }
         left -= jobs;
-        i += 1;
     }
     Line {
         row: 0,
@@ -85,11 +80,8 @@ fn line_at(t: Table, cycle: u16, firsts: &[u16], k: usize) -> Line
 fn print_lines(t: Table, cycle: u16, firsts: &[u16], jobs: usize)
     requires { Ready t cycle × Begins (first_slots (used t)) firsts.now × (jobs ≡ length (plan_lines (used t))) }
 {
-    let mut k: usize = 0;
-    while k < jobs {
-        let line = line_at(t, cycle, firsts, k);
-        print_line(line);
-        k += 1;
+    for k in 0..jobs {
+        print_line(line_at(t, cycle, firsts, k));
     }
 }
 
@@ -97,11 +89,9 @@ fn print_lines(t: Table, cycle: u16, firsts: &[u16], jobs: usize)
 fn print_plan(t: Table)
     requires { table_refusal t ≡ None }
 {
-    let checked = reserve::check(t);
-    let cycle = checked.cycle;
+    let cycle = reserve::check(t).unwrap();
     let mut firsts = [0u16; 4096];
-    let handed = reserve::first_slots(t, &mut firsts);
-    let jobs = handed.used;
+    let jobs = reserve::first_slots(t, &mut firsts).unwrap();
     print_head(cycle, jobs);
     print_lines(t, cycle, &firsts, jobs);
 }
@@ -110,10 +100,8 @@ fn print_plan(t: Table)
 fn main() {
     let mut input = [0u8; 65538];
     let n = io::read_full(STDIN_FILENO, &mut input);
-    let reading = tablefile::read(&input[..n]);
-    let f = reading.refusal;
-    match f {
-        Refusal::None => print_plan(reading.table),
-        _ => print_refusal(f),
+    match tablefile::read(&input[..n]) {
+        Ok(t) => print_plan(t),
+        Err(f) => print_refusal(f),
     }
 }

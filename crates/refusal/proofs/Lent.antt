@@ -8,18 +8,17 @@ use native.Mathlib.Omega.{arith}
 use lib.ListN.{length, drop, set}
 use lib.Seq.{sets, sets-eq}
 use Rattle.refusal.specs.declared.Refusal.{Refusal}
-use Rattle.refusal.specs.declared.Refusal.TheVariants.{None}
+use Rattle.std.specs.Prelude.{Option, Some, None}
 use Rattle.refusal.specs.Lent.{overlaid}
-use Rattle.refusal.proofs.Order.{Told, refused}
 
-module _ (f : Refusal) (new old : List ℕ) where
-  pub overlaid_refused : Told f → old ≡ overlaid f new old
-  unfolding overlaid
-  overlaid_refused p = simp (refused f p)
-
+module _ (f : Option Refusal) (new old : List ℕ) where
   pub overlaid_none : f ≡ None → new ++ drop (length new) old ≡ overlaid f new old
   unfolding overlaid
   overlaid_none e = rw e
+
+pub overlaid_some : (o : Option Refusal) (f : Refusal) (new old : List ℕ) → o ≡ Some f → old ≡ overlaid o new old
+unfolding overlaid
+overlaid_some o f new old e = rw e
 
 -- stores after stores
 pub sets_more : (xs ys l : List ℕ) (a : ℕ) → sets (sets l a xs) (a + length xs) ys ≡ sets l a (xs ++ ys)

@@ -2,10 +2,10 @@
 -- Assumes nothing.
 use mathlib.Core.Path.{sym, ◌∙◌}
 use Rattle.refusal.proofs.Settles.{Settles}
-use Rattle.refusal.proofs.number.Kinds as number-kinds
-use Rattle.refusal.proofs.number.Reads as number
-use Rattle.refusal.proofs.named_row.Kinds as named-row-kinds
-use Rattle.refusal.proofs.named_row.Reads as named-row
+use Rattle.refusal.proofs.Refusal.number.Kinds as number-kinds
+use Rattle.refusal.proofs.Refusal.number.Reads as number
+use Rattle.refusal.proofs.Refusal.named_row.Kinds as named-row-kinds
+use Rattle.refusal.proofs.Refusal.named_row.Reads as named-row
 
 pub number_unique : Settles 0 number-kinds.ps number-kinds.r number.Post
 number_unique κs a x y s t p q = p ∙ sym q

@@ -1,12 +1,11 @@
 -- What document 01 says of each case of the enum of refusals: its number, and the row that it names.
 -- Assumes nothing: these are definitions.
-use Rattle.std.specs.Prelude.{ℕ}
+use Rattle.std.specs.Prelude.{ℕ, Option, Some, None}
 use Rattle.refusal.specs.declared.Refusal.{Refusal}
-use Rattle.refusal.specs.declared.Refusal.TheVariants.{None, Empty, Many, Zero, Long, Order, Cycle, Tight, Room, Record, Report, Stray, Size, Version, Dosing, Spans}
+use Rattle.refusal.specs.declared.Refusal.TheVariants.{Empty, Many, Zero, Long, Order, Cycle, Tight, Room, Record, Report, Stray, Size, Version, Dosing, Spans}
 
--- 'Numbers of refusal'; 0 where nothing is refused
+-- 'Numbers of refusal'
 abbrev pub number_of : Refusal → ℕ
-number_of None = 0
 number_of Empty = 1
 number_of Many = 2
 number_of (Zero k) = 3
@@ -26,7 +25,6 @@ number_of Spans = 15
 
 -- 'The answer names a row for 3, 4, 5 and 7, and row 0 otherwise.'
 abbrev pub row_of : Refusal → ℕ
-row_of None = 0
 row_of Empty = 0
 row_of Many = 0
 row_of (Zero k) = k
@@ -42,3 +40,12 @@ row_of Size = 0
 row_of Version = 0
 row_of Dosing = 0
 row_of Spans = 0
+
+-- of an answer that may be refused: 0 where nothing is refused
+abbrev pub number_told : Option Refusal → ℕ
+number_told None = 0
+number_told (Some f) = number_of f
+
+abbrev pub row_told : Option Refusal → ℕ
+row_told None = 0
+row_told (Some f) = row_of f

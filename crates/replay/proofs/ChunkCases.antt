@@ -1,5 +1,7 @@
 -- One chunk as the code meets it: no number overflows, and what the library answers is what the definitions say.
 -- Assumes nothing.
+use Rattle.std.specs.Result.{result_unwrap_or}
+use Rattle.std.specs.Prelude.{Option, None, Some, Result}
 use mathlib.Core.Path.{◌≡◌, refl, sym, ap, ap₂, ◌∙◌, subst}
 use mathlib.Core.Logic.{⊎_elim}
 use mathlib.Core.Bool.{true, false}
@@ -9,9 +11,8 @@ use native.Mathlib.Omega.{arith}
 use lib.ListN.{length, take, drop, length-append}
 use lib.Seq.{take_at}
 use Rattle.refusal.specs.declared.Refusal.{Refusal}
-use Rattle.refusal.specs.declared.Refusal.TheVariants.{None}
 use Rattle.refusal.specs.Order.{accepted, beside}
-use Rattle.refusal.proofs.Order.{Told, refused, beside_refused, beside_none}
+use Rattle.refusal.proofs.Order.{beside_none}
 use Rattle.table.specs.declared.Table.{Table}
 use Rattle.table.specs.Rows.{used}
 use Rattle.rule.proofs.Tests.{split}
@@ -19,10 +20,10 @@ use Rattle.reserve.specs.Check.{table_refusal}
 use Rattle.reserve.proofs.Verdict.{table_accepted}
 use Rattle.slots.specs.declared.Record.{Record}
 use Rattle.slots.specs.declared.Ran.{Ran}
-use Rattle.slots.specs.declared.Lost.{Lost}
 use Rattle.slots.specs.Records.{fresh_record}
 use Rattle.slots.specs.Reports.{Outcome, run_of}
-use Rattle.slots.specs.Answers.{outcome_of, told, ran_by, log_after}
+use Rattle.slots.specs.Answers.{outcome_of, ran_by, log_after}
+use Rattle.slots.specs.Answers as answers
 use Rattle.slots.specs.LostUnits.{lost_from, lost_fresh}
 use Rattle.slots.specs.Turns.{lost_by}
 use Rattle.slots.proofs.SoundRecord.{Sound, table_usable}
@@ -37,12 +38,12 @@ use Rattle.replay.proofs.Laying.{laid_is}
 use Rattle.replay.proofs.Chunks.{admitted, units_by, starts_sound, replay_sound}
 
 -- ---- the figures of a list of reports are few enough to be counted
-beside_most : (f : Refusal) (x : ℕ) → beside f x ≤ x
+beside_most : (f : Option Refusal) (x : ℕ) → beside f x ≤ x
 unfolding beside
 beside_most f x = ⊎_elim (λ (h : accepted f ≡ true). rw h (omega arith)) (λ (h : accepted f ≡ false). rw h (omega arith)) (split (accepted f))
 
 module _ (t : Table) (z : table_refusal t ≡ None) where
-  units_most : (q : Record) → Sound (used t) q → (reps : List ℕ) → (lost_from t q reps).units ≤ length reps + 65536
+  units_most : (q : Record) → Sound (used t) q → (reps : List ℕ) → result_unwrap_or (lost_from t q reps) 0 ≤ length reps + 65536
   units_most q s reps =
       omega (
         arith,
@@ -60,7 +61,7 @@ module _ (t : Table) (z : table_refusal t ≡ None) where
     stands : Sound (used t) p.next
     stands = subst (λ (r : Progress). Sound (used t) r.next) (sym g.gives) (replay_sound t z g.reports)
 
-    pub few_slots : p.slots ≤ 2 ^ 60
+    few_slots : p.slots ≤ 2 ^ 60
     few_slots = omega (arith, ap (λ (r : Progress). r.slots) g.gives, (replay_few g.reports).0, g.few)
 
     few_lost : p.lost ≤ 2 ^ 60 + 65536
@@ -71,20 +72,23 @@ module _ (t : Table) (z : table_refusal t ≡ None) where
       is_run : outcome_of t p.next reps old kept ≡ run_of (used t) p.next reps
       is_run = outcome_run t p.next reps old kept (admitted t z p.next stands) (has_room t reps old kept room (omega (arith, (table_accepted t z).cycle)))
 
-      module _ (ran : Ran) (e : ran ≡ ran_by t p.next reps old kept) (lost : Lost) (h : lost ≡ lost_from t p.next reps) where
-        tells : ran ≡ told (run_of (used t) p.next reps)
+      module _ (ran : Ran) (e : ran ≡ ran_by t p.next reps old kept) (r : Result ℕ Refusal) (units : r ≡ lost_from t p.next reps) (lost : ℕ) (told : lost ≡ result_unwrap_or r 0) where
+        h : lost ≡ result_unwrap_or (lost_from t p.next reps) 0
+        h = told ∙ ap (λ (x : Result ℕ Refusal). result_unwrap_or x 0) units
+
+        tells : ran ≡ answers.told (run_of (used t) p.next reps)
         unfolding ran_by
-        tells = e ∙ ap (λ (o : Outcome). told o) is_run
+        tells = e ∙ ap (λ (o : Outcome). answers.told o) is_run
 
         pub slots_room : length reps ≤ 1024 → p.slots + ran.slots < 2 ^ 64
         slots_room l = omega (arith, few_slots, ap (λ (r : Ran). r.slots) tells, run_short (used t) p.next reps)
 
-        pub lost_room : length reps ≤ 1024 → p.lost + lost.units < 2 ^ 64
-        lost_room l = omega (arith, few_lost, ap (λ (x : Lost). x.units) h, units_most p.next stands reps)
+        pub lost_room : length reps ≤ 1024 → p.lost + lost < 2 ^ 64
+        lost_room l = omega (arith, few_lost, h, units_most p.next stands reps)
 
-        pub onward_none : p.refusal ≡ None → (r : Progress) → r ≡ moved_on p ran lost.units → r ≡ onward_of t p reps
+        pub onward_none : p.refusal ≡ None → (r : Progress) → r ≡ moved_on p ran lost → r ≡ onward_of t p reps
         unfolding onward_of
-        onward_none d r f = f ∙ ap₂ (λ (x : Ran) (y : ℕ). moved_on p x y) tells (ap (λ (x : Lost). x.units) h) ∙ rw d refl
+        onward_none d r f = f ∙ ap₂ (λ (x : Ran) (y : ℕ). moved_on p x y) tells h ∙ rw d refl
 
       pub log_none : p.refusal ≡ None → (new : List ℕ) → new ≡ log_after t p.next reps old kept → new ≡ log_onward t p reps old
       unfolding log_after log_onward chunk_log
@@ -124,22 +128,19 @@ module _ (t : Table) (p : Progress) (reps : List ℕ) where
       pub lines_count : length (take (after.slots - p.slots) log) ≡ after.slots - p.slots
       lines_count = ap length log_is ∙ sym is_count
 
-      pub lines_few : length (take (after.slots - p.slots) log) ≤ length reps
-      lines_few = omega (arith, ap length log_is, short)
-
       pub lines_laid : {buffer new : List ℕ} {end : ℕ} → Laid buffer 0 (log_lines p.slots (take (after.slots - p.slots) log)) new end → Laid buffer 0 (chunk_lines t p reps) new end
       unfolding chunk_lines
       lines_laid f = laid_is (ap (log_lines p.slots) log_is) f
 
 -- ---- after a refusal nothing moves
-module _ (t : Table) (p : Progress) (d : Told p.refusal) (reps : List ℕ) where
+module _ (t : Table) (p : Progress) (f : Refusal) (d : p.refusal ≡ Some f) (reps : List ℕ) where
   pub onward_refused : p ≡ onward_of t p reps
   unfolding onward_of
-  onward_refused = rw (refused p.refusal d) refl
+  onward_refused = rw d refl
 
   pub log_refused : (old : List ℕ) → old ≡ log_onward t p reps old
   unfolding log_onward chunk_log
-  log_refused old = rw (refused p.refusal d) refl
+  log_refused old = rw d refl
 
 -- ---- moved on: each part apart
 module _ (p : Progress) (ran : Ran) (units : ℕ) (r : Progress) where
@@ -150,5 +151,6 @@ module _ (p : Progress) (ran : Ran) (units : ℕ) (r : Progress) where
   pub moved_none : ran.refusal ≡ None → r.refusal ≡ None → r.slots ≡ p.slots + ran.slots → r.lost ≡ p.lost + units → r.next ≡ ran.next → r ≡ moved_on p ran units
   moved_none z a b d e = moved_parts (a ∙ sym z) b (d ∙ beside_none ran.refusal (p.lost + units) z) e
 
-  pub moved_refused : Told ran.refusal → r.refusal ≡ ran.refusal → r.slots ≡ p.slots + ran.slots → r.lost ≡ 0 → r.next ≡ ran.next → r ≡ moved_on p ran units
-  moved_refused z a b d e = moved_parts a b (d ∙ beside_refused ran.refusal (p.lost + units) z) e
+  pub moved_refused : (f : Refusal) → ran.refusal ≡ Some f → r.refusal ≡ Some f → r.slots ≡ p.slots + ran.slots → r.lost ≡ 0 → r.next ≡ ran.next → r ≡ moved_on p ran units
+  unfolding beside
+  moved_refused f z a b d e = moved_parts (a ∙ sym z) b (d ∙ rw z refl) e

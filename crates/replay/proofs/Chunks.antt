@@ -1,5 +1,7 @@
 -- Reports that come chunk by chunk give what the one list that the chunks are gives over a fresh start: by the law of joined lists, chunk after chunk.
 -- Assumes nothing.
+use Rattle.std.specs.Result.{result_unwrap_or}
+use Rattle.std.specs.Prelude.{Option, None}
 use mathlib.Core.Path.{◌≡◌, refl, sym, ap, ap₂, ◌∙◌}
 use mathlib.Core.Logic.{⊎_elim}
 use mathlib.Core.Bool.{true, false}
@@ -7,9 +9,8 @@ use mathlib.Core.List.{List, [], ◌∷◌, ◌++◌, append_assoc, append-nil}
 use Prim.Native.Nat.{ℕ, ◌+◌, ◌≤◌}
 use lib.ListN.{length, length-append}
 use Rattle.refusal.specs.declared.Refusal.{Refusal}
-use Rattle.refusal.specs.declared.Refusal.TheVariants.{None}
-use Rattle.refusal.specs.Order.{accepted, beside}
-use Rattle.refusal.proofs.Order.{accepted_none, passes, beside_none, beside_not}
+use Rattle.refusal.specs.Order.{accepted, beside, answer}
+use Rattle.refusal.proofs.Order.{accepted_none, passes, beside_none, beside_not, answer_again, answer_beside}
 use Rattle.table.specs.declared.Row.{Row}
 use Rattle.table.specs.declared.Table.{Table}
 use Rattle.table.specs.Rows.{used, cycle_of}
@@ -43,12 +44,13 @@ module _ (t : Table) (z : table_refusal t ≡ None) (q : Record) (s : Sound (use
   pub admitted : record_refusal t q ≡ None
   admitted = sound_none t q z (sound_if (used t) q s)
 
-  pub units_by : (reps : List ℕ) → (lost_from t q reps).units ≡ beside (run_of (used t) q reps).refusal (lost_by (used t) q reps)
+  pub units_by : (reps : List ℕ) → result_unwrap_or (lost_from t q reps) 0 ≡ beside (run_of (used t) q reps).refusal (lost_by (used t) q reps)
   unfolding lost_from lost_refusal
   units_by reps =
-      let f : Refusal = (run_of rs q reps).refusal in
+      let f : Option Refusal = (run_of rs q reps).refusal in
       let sum : ℕ = lost_units rs q (logged (run_of rs q reps).log) (reported reps) (length reps) in
-      ap (λ (g : Refusal). beside g sum) (sym (passes (record_refusal t q) f admitted))
+      answer_beside (lost_refusal t q reps) sum
+      ∙ ap (λ (g : Option Refusal). beside g sum) (sym (passes (record_refusal t q) f admitted))
       ∙ sym (lost_beside rs (table_usable t z) q s reps f refl)
 
 module _ (t : Table) (z : table_refusal t ≡ None) where
@@ -82,11 +84,12 @@ module _ (t : Table) (z : table_refusal t ≡ None) where
     unfolding ran_by replay_of
     replay_ran old kept l m = rw (outcome_run t (fresh_record t) reps old kept (admitted t z (fresh_record t) starts_sound) (has_room t reps old kept l m)) refl
 
-    pub replay_units : lost_fresh t reps ≡ record { refusal = (replay_of t reps).refusal; units = (replay_of t reps).lost }
+    pub replay_units : lost_fresh t reps ≡ answer (replay_of t reps).refusal (replay_of t reps).lost
     unfolding lost_fresh lost_from lost_refusal replay_of
     replay_units =
-        ap (λ (f : Refusal). record { refusal = f; units = (lost_fresh t reps).units })
-        (sym (passes (record_refusal t (fresh_record t)) o.refusal (admitted t z (fresh_record t) starts_sound)))
+        let sum : ℕ = lost_units (used t) (fresh_record t) (logged o.log) (reported reps) (length reps) in
+        let same : lost_refusal t (fresh_record t) reps ≡ o.refusal = sym (passes (record_refusal t (fresh_record t)) o.refusal (admitted t z (fresh_record t) starts_sound)) in
+        rw same (answer_again o.refusal sum)
 
   -- no report
   pub replay_none : start_of t ≡ replay_of t []
@@ -121,7 +124,7 @@ module _ (t : Table) (z : table_refusal t ≡ None) where
         ∙ beside_not (run_of (used t) q (xs ++ ys)).refusal (lost_by (used t) q (xs ++ ys)) (ap (λ (o : Outcome). accepted o.refusal) (stopped h) ∙ h)
         ∙ sym (replay_lost (xs ++ ys))
 
-    lost_on : accepted first.refusal ≡ true → beside second.refusal ((replay_of t xs).lost + (lost_from t first.next ys).units) ≡ (replay_of t (xs ++ ys)).lost
+    lost_on : accepted first.refusal ≡ true → beside second.refusal ((replay_of t xs).lost + (result_unwrap_or (lost_from t first.next ys) 0)) ≡ (replay_of t (xs ++ ys)).lost
     lost_on h =
         let more : ℕ = lost_by (used t) first.next ys in
         let s : Sound (used t) first.next = next_sound (used t) (table_usable t z) q starts_sound xs in
@@ -145,10 +148,10 @@ module _ (t : Table) (z : table_refusal t ≡ None) where
         same (replay_of t xs) (replay_of t (xs ++ ys)) (ap (λ (o : Outcome). o.refusal) (sym (stopped h))) (ap (λ (o : Outcome). length o.log) (sym (stopped h))) (lost_stopped h)
         (ap (λ (o : Outcome). o.next) (sym (stopped h)))
 
-    on_whole : accepted first.refusal ≡ true → moved_on (replay_of t xs) (told second) (lost_from t first.next ys).units ≡ replay_of t (xs ++ ys)
+    on_whole : accepted first.refusal ≡ true → moved_on (replay_of t xs) (told second) (result_unwrap_or (lost_from t first.next ys) 0) ≡ replay_of t (xs ++ ys)
     unfolding replay_of moved_on
     on_whole h =
-        same (moved_on (replay_of t xs) (told second) (lost_from t first.next ys).units) (replay_of t (xs ++ ys)) (ap (λ (o : Outcome). o.refusal) (sym (goes_on h)))
+        same (moved_on (replay_of t xs) (told second) (result_unwrap_or (lost_from t first.next ys) 0)) (replay_of t (xs ++ ys)) (ap (λ (o : Outcome). o.refusal) (sym (goes_on h)))
         (sym (length-append first.log second.log) ∙ ap (λ (o : Outcome). length o.log) (sym (goes_on h))) (lost_on h)
         (ap (λ (o : Outcome). o.next) (sym (goes_on h)))
 

@@ -4,20 +4,16 @@ use mathlib.Core.Path.{◌≡◌, refl, sym, ap, ◌∙◌, subst}
 use mathlib.Core.Logic.{⊎_elim}
 use mathlib.Core.Bool.{Bool, cond}
 use mathlib.Core.List.{List, [], ◌∷◌, ◌++◌}
-use Prim.Native.Nat.{ℕ, zero, suc, ◌+◌, ◌-◌, ◌/◌, ◌%◌, ◌^◌, ◌≤◌, ◌<◌}
+use Prim.Native.Nat.{ℕ, zero, suc, ◌-◌, ◌/◌, ◌%◌, ◌^◌, ◌≤◌, ◌<◌}
 use native.Mathlib.Nat.{pow-suc, pow-le-pow_right}
 use native.Mathlib.Omega.{arith}
-use lib.ListN.{length, take, length-append}
+use lib.ListN.{take}
 use borrow.Author.Tests.{lt-ltb, le-ltb}
 use Rattle.io.specs.Digits.{hex_digit_ascii, last_digits, IsDigitCount}
 use Rattle.rule.proofs.Tests.{side}
 use Rattle.replay.specs.Texts.{decimal_in, decimal}
 use Rattle.replay.specs.Turns.{Laid}
 use Rattle.replay.proofs.Laying.{laid_is}
-
-digits_length : (k n : ℕ) → length (last_digits 10 k n) ≡ k
-digits_length zero n = refl
-digits_length (suc k) n = omega (arith, length-append (last_digits 10 k (n / 10)) (hex_digit_ascii (n % 10) ∷ []), digits_length k (n / 10))
 
 -- in enough digits the fewest are spelled
 digits_in : (f n k : ℕ) → IsDigitCount 10 1 n k → k ≤ suc f → last_digits 10 k n ≡ decimal_in f n
@@ -50,19 +46,7 @@ digits_decimal n k w =
     digits_in n n k w
     (⊎_elim (λ (h : k < 2). omega arith) (λ (h : 2 ≤ k). let low : 10 ^ (k - 1) ≤ n = w.2 (omega arith) in omega (arith, power_up (k - 1))) (side k 2))
 
--- a number of 64 bits has at most 20 digits
-pub digits_few : (n k : ℕ) → n < 2 ^ 64 → IsDigitCount 10 1 n k → k ≤ 20
-digits_few n k l w =
-    ⊎_elim (λ (h : k < 21). omega arith)
-    (λ (h : 21 ≤ k).
-    let many : 10 ^ 20 ≤ 10 ^ (k - 1) = pow-le-pow_right (omega arith) {i = 20} {j = k - 1} (omega arith) in
-    absurd (omega (arith, w.2 (omega arith))))
-    (side k 21)
-
--- ---- spelled at the start of an array and copied
-module _ {old new : List ℕ} {at e : ℕ} (ds : List ℕ) (n k : ℕ) (l : n < 2 ^ 64) (w : IsDigitCount 10 1 n k) (s : take k ds ≡ last_digits 10 k n) where
-  pub number_laid : Laid old at (take k ds) new e → Laid old at (decimal n) new e
-  number_laid g = laid_is (s ∙ digits_decimal n k w) g
-
-  pub number_short : Laid old at (decimal n) new e → e ≤ at + 20
-  number_short g = omega (arith, g.ends, ap length (digits_decimal n k w), digits_length k n, digits_few n k l w)
+-- spelled at the start of an array and copied
+pub number_laid : {old new : List ℕ} {at e : ℕ} (ds : List ℕ) (n k : ℕ) → IsDigitCount 10 1 n k → take k ds ≡ last_digits 10 k n
+    → Laid old at (take k ds) new e → Laid old at (decimal n) new e
+number_laid ds n k w s g = laid_is (s ∙ digits_decimal n k w) g

@@ -7,7 +7,7 @@ use native.Mathlib.Numerals.{add-one}
 use native.Mathlib.Omega.{arith}
 use borrow.Author.Tests.{lt-ltb, le-ltb}
 use lib.ListN.{length, take, get_or}
-use lib.Seq.{take-suc, take_all, length-take-le}
+use lib.Seq.{take-suc, length-take-le}
 use Rattle.slots.specs.History.{work_of}
 use Rattle.replay.specs.Texts.{quoted, named}
 use Rattle.replay.specs.Lines.{work_text, slot_line, log_lines}
@@ -15,12 +15,12 @@ use Rattle.replay.specs.Turns.{Laid}
 use Rattle.replay.proofs.Laying.{laid_then, laid_is}
 
 -- ---- by the log's byte
-says_primary : (ran : ℕ) → (ran ≡ 0 → ⊥) → ran ≤ 16 → named " primary " ran ++ quoted "\n" ≡ work_text (work_of ran)
+says_primary : (ran : ℕ) → 1 ≤ ran → ran ≤ 16 → named " primary " ran ++ quoted "\n" ≡ work_text (work_of ran)
 unfolding work_of
-says_primary zero h l = absurd (h refl)
+says_primary zero h l = absurd (omega arith)
 says_primary (suc b) h l = rw (lt-ltb b 16 (omega arith)) refl
 
-says_alternate : (ran : ℕ) → 16 < ran → named " alternate " (ran - 16) ++ quoted "\n" ≡ work_text (work_of ran)
+says_alternate : (ran : ℕ) → 17 ≤ ran → named " alternate " (ran - 16) ++ quoted "\n" ≡ work_text (work_of ran)
 unfolding work_of
 says_alternate zero l = absurd (omega arith)
 says_alternate (suc b) l =
@@ -32,10 +32,10 @@ module _ {old new : List ℕ} {at e : ℕ} (ran : ℕ) where
   unfolding work_of
   idle_laid z g = laid_is (ap (λ (b : ℕ). work_text (work_of b)) (sym z)) g
 
-  pub primary_laid : (ran ≡ 0 → ⊥) → ran ≤ 16 → Laid old at (named " primary " ran ++ quoted "\n") new e → Laid old at (work_text (work_of ran)) new e
+  pub primary_laid : 1 ≤ ran → ran ≤ 16 → Laid old at (named " primary " ran ++ quoted "\n") new e → Laid old at (work_text (work_of ran)) new e
   primary_laid h l g = laid_is (says_primary ran h l) g
 
-  pub alternate_laid : 16 < ran → Laid old at (named " alternate " (ran - 16) ++ quoted "\n") new e → Laid old at (work_text (work_of ran)) new e
+  pub alternate_laid : 17 ≤ ran → Laid old at (named " alternate " (ran - 16) ++ quoted "\n") new e → Laid old at (work_text (work_of ran)) new e
   alternate_laid l g = laid_is (says_alternate ran l) g
 
 -- ---- logs joined up: their lines too
@@ -49,13 +49,12 @@ lines_joined s (x ∷ xs) ys =
 
 -- ---- a log of which the lines of the first i bytes are laid
 pub record Lined (old : List ℕ) (first : ℕ) (log new : List ℕ) (at i : ℕ) : Type 0 where
-  pub few : i ≤ length log
   pub laid : Laid old 0 (log_lines first (take i log)) new at
   pub room : at ≤ 52 * i
 
 pub lined_start : (old : List ℕ) (first : ℕ) (log : List ℕ) → Lined old first log old 0 0
 unfolding log_lines
-lined_start old first log = record { few = omega arith; laid = record { bytes = refl; ends = refl; fits = omega arith; same = refl }; room = omega arith }
+lined_start old first log = record { laid = record { bytes = refl; ends = refl; fits = omega arith; same = refl }; room = omega arith }
 
 module _ {old : List ℕ} {first : ℕ} {log new : List ℕ} {at i : ℕ} (g : Lined old first log new at i) where
   one_more : i < length log → log_lines first (take i log) ++ slot_line (first + i) (get_or log i 0) ≡ log_lines first (take (i + 1) log)
@@ -69,7 +68,4 @@ module _ {old : List ℕ} {first : ℕ} {log new : List ℕ} {at i : ℕ} (g : L
       ∙ ap (log_lines first) (sym (take-suc log i 0 l) ∙ ap (λ (n : ℕ). take n log) (sym (add-one i)))
 
   pub lined_step : i < length log → {out : List ℕ} {e : ℕ} → Laid new at (slot_line (first + i) (get_or log i 0)) out e → e ≤ at + 52 → Lined old first log out e (i + 1)
-  lined_step l f s = record { few = omega arith; laid = laid_is (one_more l) (laid_then g.laid f); room = omega (arith, g.room) }
-
-  pub lined_end : length log ≤ i → Laid old 0 (log_lines first log) new at
-  lined_end l = laid_is (ap (log_lines first) (take_all i log l)) g.laid
+  lined_step l f s = record { laid = laid_is (one_more l) (laid_then g.laid f); room = omega (arith, g.room) }

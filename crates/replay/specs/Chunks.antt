@@ -1,7 +1,7 @@
 -- A list of reports over a fresh start, whole and chunk by chunk.
 -- Assumes nothing: these are definitions.
-use Rattle.std.specs.Prelude.{ℕ, ◌+◌, cond, List, [], ◌∷◌, ◌++◌, length, drop}
-use Rattle.refusal.specs.declared.Refusal.TheVariants.{None}
+use Rattle.std.specs.Prelude.{None, ℕ, ◌+◌, cond, List, [], ◌∷◌, ◌++◌, length, drop}
+use Rattle.std.specs.Result.{result_unwrap_or}
 use Rattle.refusal.specs.Order.{accepted, beside}
 use Rattle.table.specs.declared.Table.{Table}
 use Rattle.table.specs.Rows.{used}
@@ -16,7 +16,7 @@ use Rattle.replay.specs.declared.Progress.{Progress}
 unfoldable pub replay_of : Table → List ℕ → Progress
 replay_of t reps =
     let o : Outcome = run_of (used t) (fresh_record t) reps in
-    record { refusal = o.refusal; slots = length o.log; lost = (lost_fresh t reps).units; next = o.next }
+    record { refusal = o.refusal; slots = length o.log; lost = result_unwrap_or (lost_fresh t reps) 0; next = o.next }
 
 -- and the log's bytes
 unfoldable pub replay_log : Table → List ℕ → List ℕ
@@ -33,7 +33,7 @@ moved_on p ran units = record { refusal = ran.refusal; slots = p.slots + ran.slo
 
 -- one more chunk, from the record that the ones before gave; after a refusal nothing moves
 unfoldable pub onward_of : Table → Progress → List ℕ → Progress
-onward_of t p reps = cond (accepted p.refusal) (moved_on p (told (run_of (used t) p.next reps)) (lost_from t p.next reps).units) p
+onward_of t p reps = cond (accepted p.refusal) (moved_on p (told (run_of (used t) p.next reps)) (result_unwrap_or (lost_from t p.next reps) 0)) p
 
 -- the log's bytes of one more chunk
 unfoldable pub chunk_log : Table → Progress → List ℕ → List ℕ

@@ -1,9 +1,8 @@
 -- What the program prints.
 -- Assumes nothing: these are definitions.
-use Rattle.std.specs.Prelude.{ℕ, zero, suc, cond, List, [], ◌∷◌, ◌++◌}
+use Rattle.std.specs.Prelude.{Some, None, Option, ℕ, zero, suc, List, [], ◌∷◌, ◌++◌}
 use Rattle.refusal.specs.declared.Refusal.{Refusal}
 use Rattle.refusal.specs.Numbers.{number_of, row_of}
-use Rattle.refusal.specs.Order.{accepted}
 use Rattle.table.specs.declared.Table.{Table}
 use Rattle.slots.specs.declared.State.{State}
 use Rattle.slots.specs.declared.State.TheVariants.{Waiting, Failed, Done}
@@ -66,9 +65,14 @@ unfoldable pub row_lines : List Job → ℕ → List ℕ
 row_lines js zero = []
 row_lines js (suc n) = row_lines js n ++ row_line (suc n) (job_at js n)
 
+-- by the refusal that stopped the list, or none
+abbrev pub ended : Option Refusal → (slots lost : ℕ) → List ℕ
+ended None slots lost = ran_line slots lost
+ended (Some f) slots lost = refused_line f slots
+
 -- how the list ended
 unfoldable pub end_line : Progress → List ℕ
-end_line p = cond (accepted p.refusal) (ran_line p.slots p.lost) (refused_line p.refusal p.slots)
+end_line p = ended p.refusal p.slots p.lost
 
 -- how it ended, and the record after the accepted slots, of n rows
 unfoldable pub end_lines : ℕ → Progress → List ℕ

@@ -1,13 +1,11 @@
 // One chunk of the reports, from the record that the chunks before it gave.
-ghost use Rattle.std.specs.Prelude.{◌≡◌, ◌+◌, ◌^◌, ◌≤◌, ◌<◌, length};
-ghost use Rattle.refusal.specs.declared.Refusal.TheVariants.{None};
+ghost use Rattle.std.specs.Prelude.{None, ◌≡◌, ◌+◌, ◌^◌, ◌≤◌, ◌<◌, length};
 ghost use Rattle.reserve.specs.Check.{table_refusal};
 ghost use Rattle.replay.specs.Chunks.{moved_on, onward_of, log_onward};
 ghost use Rattle.replay.specs.Lines.{chunk_lines};
 ghost use Rattle.replay.specs.Turns.{Laid, Replayed};
 
 use crate::{Progress, lines};
-use refusal::Refusal;
 use slots::Ran;
 use table::Table;
 
@@ -25,16 +23,15 @@ fn moved(p: Progress, ran: Ran, units: u64) -> Progress
 {
     let slots = p.slots + ran.slots as u64;
     let next = ran.next;
-    let f = ran.refusal;
-    match f {
-        Refusal::None => Progress {
-            refusal: Refusal::None,
+    match ran.refusal {
+        None => Progress {
+            refusal: None,
             slots,
             lost: p.lost + units,
             next,
         },
-        _ => Progress {
-            refusal: f,
+        Some(f) => Progress {
+            refusal: Some(f),
             slots,
             lost: 0,
             next,
@@ -49,16 +46,14 @@ fn onward(p: Progress, t: Table, reports: &[u8], log: &mut [u8]) -> Progress
     ensures answer { result ≡ onward_of t p reports.now }
     ensures bytes { log.new ≡ log_onward t p reports.now log.old }
 {
-    let f = p.refusal;
-    match f {
-        Refusal::None => {
-            let q = p.next;
+    match p.refusal {
+        None => {
             let mut buffer = [0u8; 4096];
-            let ran = q.run(t, reports, log, &mut buffer);
-            let lost = q.lost(t, reports);
-            moved(p, ran, lost.units)
+            let ran = p.next.run(t, reports, log, &mut buffer);
+            let lost = p.next.lost(t, reports).unwrap_or(0);
+            moved(p, ran, lost)
         }
-        _ => p,
+        Some(_) => p,
     }
 }
 

@@ -24,10 +24,8 @@ fn put_cause(out: &mut [u8], at: usize, f: Refusal) -> usize
     ensures text { Laid out.old at (cause_text f) out.new result }
     ensures short { result ≤ at + 62 }
 {
-    let number = refusal::number(f);
-    let row = refusal::named_row(f);
-    let told = text::put_named(out, at, b"refused ", number as u64);
-    text::put_named(out, told, b" row ", row as u64)
+    let told = text::put_named(out, at, b"refused ", f.number() as u64);
+    text::put_named(out, told, b" row ", f.named_row() as u64)
 }
 
 // 'refused 11 row 0 slots 3'
@@ -47,10 +45,9 @@ fn put_outcome(out: &mut [u8], at: usize, p: Progress) -> usize
     ensures text { Laid out.old at (end_line p) out.new result }
     ensures short { result ≤ at + 94 }
 {
-    let f = p.refusal;
-    match f {
-        Refusal::None => put_ran(out, at, p.slots, p.lost),
-        _ => put_refused(out, at, f, p.slots),
+    match p.refusal {
+        None => put_ran(out, at, p.slots, p.lost),
+        Some(f) => put_refused(out, at, f, p.slots),
     }
 }
 
@@ -93,22 +90,19 @@ fn put_row(out: &mut [u8], at: usize, row: u8, j: Job) -> usize
     ensures text { Laid out.old at (row_line row j) out.new result }
     ensures short { result ≤ at + 81 }
 {
-    let state = j.state;
     let numbered = text::put_number(out, at, row as u64);
-    let stated = put_state(out, numbered, state);
+    let stated = put_state(out, numbered, j.state);
     put_units(out, stated, j.run, j.left)
 }
 
-// A line for each of the first n rows.
-fn put_rows(out: &mut [u8], from: usize, jobs: [Job; 16], n: u8) -> usize
-    requires { (n ≤ 16) × (from + 81 * n ≤ length out.old) }
-    ensures { Laid out.old from (row_lines jobs n) out.new result }
+// A line for each row.
+fn put_rows(out: &mut [u8], from: usize, jobs: &[Job]) -> usize
+    requires { (length jobs.now ≤ 16) × (from + 81 * length jobs.now ≤ length out.old) }
+    ensures { Laid out.old from (row_lines jobs.now (length jobs.now)) out.new result }
 {
     let mut at = from;
-    let mut i: u8 = 0;
-    while i < n {
-        at = put_row(out, at, i + 1, jobs[i as usize]);
-        i += 1;
+    for (i, job) in jobs.iter().enumerate() {
+        at = put_row(out, at, i as u8 + 1, *job);
     }
     at
 }
@@ -118,9 +112,7 @@ pub(crate) fn put_end(out: &mut [u8], p: Progress, n: u8) -> usize
     requires { (n ≤ 16) × (126 + 81 * n ≤ length out.old) }
     ensures { Laid out.old 0 (end_lines n p) out.new result }
 {
-    let q = p.next;
-    let jobs = q.jobs;
     let ended = put_outcome(out, 0, p);
-    let clock = put_clock(out, ended, q.clock);
-    put_rows(out, clock, jobs, n)
+    let clock = put_clock(out, ended, p.next.clock);
+    put_rows(out, clock, &p.next.jobs[..n as usize])
 }

@@ -23,13 +23,11 @@ fn put_work(out: &mut [u8], at: usize, ran: u8) -> usize
     ensures text { Laid out.old at (work_text (work_of ran)) out.new result }
     ensures short { result ≤ at + 32 }
 {
-    if ran == 0 {
-        return text::put_bytes(out, at, b" idle\n");
+    match ran {
+        0 => text::put_bytes(out, at, b" idle\n"),
+        1..=16 => put_unit(out, at, b" primary ", ran),
+        _ => put_unit(out, at, b" alternate ", ran - 16),
     }
-    if ran <= 16 {
-        return put_unit(out, at, b" primary ", ran);
-    }
-    put_unit(out, at, b" alternate ", ran - 16)
 }
 
 // '7 primary 1': a line takes at most 52 bytes.
@@ -47,11 +45,9 @@ pub(crate) fn put_lines(out: &mut [u8], first: u64, log: &[u8]) -> usize
     requires { (52 * length log.now ≤ length out.old) × (first + length log.now < 2 ^ 64) }
     ensures { Laid out.old 0 (log_lines first log.now) out.new result }
 {
-    let mut at: usize = 0;
-    let mut i: usize = 0;
-    while i < log.len() {
-        at = put_line(out, at, first + i as u64, log[i]);
-        i += 1;
+    let mut at = 0;
+    for (i, ran) in log.iter().enumerate() {
+        at = put_line(out, at, first + i as u64, *ran);
     }
     at
 }

@@ -2,9 +2,8 @@
 // ended, and the record after the accepted slots; or the one line of a refused table.
 #![tactic(auto)]
 
-ghost use Rattle.std.specs.Prelude.{◌≡◌, ◌+◌, ◌^◌, ◌≤◌, ◌<◌, length, take};
+ghost use Rattle.std.specs.Prelude.{None, ◌≡◌, ◌+◌, ◌^◌, ◌≤◌, ◌<◌, length, take};
 ghost use Rattle.io.specs.Counts.{IsPrefixLen};
-ghost use Rattle.refusal.specs.declared.Refusal.TheVariants.{None};
 ghost use Rattle.reserve.specs.Check.{table_refusal};
 ghost use Rattle.tablefile.specs.Layout.{length_field};
 ghost use Rattle.replay.specs.Chunks.{start_of};
@@ -25,9 +24,10 @@ const STDIN_FILENO: i32 = 0;
 const STDOUT_FILENO: i32 = 1;
 
 // What the reports so far have come to: the refusal that stopped them, the slots accepted, the lost units, 0 beside a refusal, and the record after those slots.
+// No `Result`, since slots and record are told beside a refusal too (`slots::Ran`).
 #[derive(Clone, Copy)]
 struct Progress {
-    refusal: Refusal,
+    refusal: Option<Refusal>,
     slots: u64,
     lost: u64,
     next: Record,
@@ -42,19 +42,12 @@ fn read_part(buffer: &mut [u8], from: usize, end: usize) -> usize
     io::read_full(STDIN_FILENO, &mut buffer[from..end])
 }
 
-// A byte, as a number that is known to be small.
-fn wide(byte: u8) -> usize
-    ensures { (result ≡ byte) × (result < 256) }
-{
-    byte as usize
-}
-
 // What the length field of a table file says.
 fn length_field(file: &[u8]) -> usize
     requires { 2 ≤ length file.now }
     ensures { (result ≡ length_field file.now) × (result < 65536) }
 {
-    wide(file[0]) * 256 + wide(file[1])
+    u16::from_be_bytes([file[0], file[1]]) as usize
 }
 
 // The table file: its length field, and as many bytes as that says, or as there are. What comes after them is left to the reports.
@@ -72,12 +65,12 @@ fn read_file(file: &mut [u8]) -> usize
 }
 
 // The next chunk of reports. A refusal ends them as the end of the input does.
-fn read_chunk(f: Refusal, reports: &mut [u8]) -> usize
+fn read_chunk(stop: Option<Refusal>, reports: &mut [u8]) -> usize
     ensures { IsPrefixLen result reports.new }
 {
-    match f {
-        Refusal::None => io::read_full(STDIN_FILENO, reports),
-        _ => 0,
+    match stop {
+        None => io::read_full(STDIN_FILENO, reports),
+        Some(_) => 0,
     }
 }
 
@@ -85,13 +78,11 @@ fn read_chunk(f: Refusal, reports: &mut [u8]) -> usize
 fn start(t: Table) -> Progress
     ensures { result ≡ start_of t }
 {
-    let started = slots::fresh(t);
-    let next = started.start;
     Progress {
-        refusal: Refusal::None,
+        refusal: None,
         slots: 0,
         lost: 0,
-        next,
+        next: slots::fresh(t).start,
     }
 }
 
@@ -104,19 +95,14 @@ fn replay(t: Table) -> Progress
     let mut p = start(t);
     let mut reports = [0u8; 1024];
     let mut out = io::large_buffer();
-    let mut chunks: u64 = 1099511627776;
-    while 0 < chunks {
-        let f = p.refusal;
-        let n = read_chunk(f, &mut reports);
+    for _ in 0..1099511627776u64 {
+        let n = read_chunk(p.refusal, &mut reports);
         if n == 0 {
-            return p;
+            break;
         }
         let done = chunk::put_chunk(p, t, &reports[..n], &mut out);
-        let used = done.used;
-        io::write_all(STDOUT_FILENO, &out[..used]);
-        let after = done.after;
-        p = after;
-        chunks -= 1;
+        io::write_all(STDOUT_FILENO, &out[..done.used]);
+        p = done.after;
     }
     p
 }
@@ -140,11 +126,8 @@ fn print_refusal(f: Refusal) {
 fn main() {
     let mut file = [0u8; 65537];
     let n = read_file(&mut file);
-    let reading = tablefile::read(&file[..n]);
-    let f = reading.refusal;
-    let t = reading.table;
-    match f {
-        Refusal::None => print_end(t, replay(t)),
-        _ => print_refusal(f),
+    match tablefile::read(&file[..n]) {
+        Ok(t) => print_end(t, replay(t)),
+        Err(f) => print_refusal(f),
     }
 }

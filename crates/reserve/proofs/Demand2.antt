@@ -1,6 +1,7 @@
 -- Demand 2, its static part: the reservations of a table are those of the backward rate-monotonic rule as document 01 fixes it, and a table that passes the earlier
 -- checks is refused as tight exactly when that rule leaves a job short. docs/PROMISES.md names these theorems.
 -- Assumes nothing.
+use Rattle.std.specs.Prelude.{Some, None}
 use mathlib.Core.Path.{◌≡◌, refl, sym, ap, ◌∙◌}
 use mathlib.Core.Logic.{◌↔◌, ⊎_elim}
 use mathlib.Core.Bool.{Bool, false}
@@ -9,8 +10,8 @@ use Prim.Native.Nat.{ℕ, zero, suc, ◌-◌, ◌≤◌, ◌<◌}
 use native.Mathlib.Omega.{arith}
 use borrow.Author.Tests.{lt-ltb, le-ltb, eqb-true, eqb-false}
 use lib.ListN.{length, get_or}
-use Rattle.refusal.specs.declared.Refusal.TheVariants.{None, Tight}
-use Rattle.refusal.specs.Numbers.{number_of, row_of}
+use Rattle.refusal.specs.declared.Refusal.TheVariants.{Tight}
+use Rattle.refusal.specs.Numbers.{number_told, row_told}
 use Rattle.table.specs.declared.Row.{Row}
 use Rattle.table.specs.declared.Table.{Table}
 use Rattle.table.specs.Rows.{row_at, used, cycle_of}
@@ -48,29 +49,29 @@ module _ (t : Table) (e : rows_refusal t ≡ None) where
   refusal_none : tight_of rs ≡ 0 → table_refusal t ≡ None
   refusal_none h = sym (rw (le-ltb 0 (tight_of rs) (omega arith)) at (after_rows t e))
 
-  refusal_tight : (i : ℕ) → tight_of rs ≡ suc i → table_refusal t ≡ Tight (suc i)
-  refusal_tight i h = sym (rw (lt-ltb 0 (tight_of rs) (omega arith)) at (after_rows t e)) ∙ ap Tight h
+  refusal_tight : (i : ℕ) → tight_of rs ≡ suc i → table_refusal t ≡ Some (Tight (suc i))
+  refusal_tight i h = sym (rw (lt-ltb 0 (tight_of rs) (omega arith)) at (after_rows t e)) ∙ ap (λ k. Some (Tight k)) h
 
   none_refusal : table_refusal t ≡ None → tight_of rs ≡ 0
   none_refusal d = go (tight_of rs) refl
     where
       go : (k : ℕ) → tight_of rs ≡ k → tight_of rs ≡ 0
       go zero h = h
-      go (suc i) h = absurd (omega (arith, ap number_of (sym (refusal_tight i h) ∙ d)))
+      go (suc i) h = absurd (omega (arith, ap number_told (sym (refusal_tight i h) ∙ d)))
 
-  tight_refusal : (i : ℕ) → table_refusal t ≡ Tight (suc i) → tight_of rs ≡ suc i
+  tight_refusal : (i : ℕ) → table_refusal t ≡ Some (Tight (suc i)) → tight_of rs ≡ suc i
   tight_refusal i d = go (tight_of rs) refl
     where
       go : (k : ℕ) → tight_of rs ≡ k → tight_of rs ≡ suc i
-      go zero h = absurd (omega (arith, ap number_of (sym (refusal_none h) ∙ d)))
-      go (suc k) h = h ∙ ap row_of (sym (refusal_tight k h) ∙ d)
+      go zero h = absurd (omega (arith, ap number_told (sym (refusal_none h) ∙ d)))
+      go (suc k) h = h ∙ ap row_told (sym (refusal_tight k h) ∙ d)
 
   -- ---- 'refused as tight exactly when that rule leaves a job short', with the row that is named
-  pub tight_exactly : (i : ℕ) → (table_refusal t ≡ Tight (suc i)) ↔ TightAt rs i
+  pub tight_exactly : (i : ℕ) → (table_refusal t ≡ Some (Tight (suc i))) ↔ TightAt rs i
   unfolding tight_of
   tight_exactly i = (forth, back)
     where
-      forth : table_refusal t ≡ Tight (suc i) → TightAt rs i
+      forth : table_refusal t ≡ Some (Tight (suc i)) → TightAt rs i
       forth d =
           let a : FirstAt (lacks (ends rs) (whole rs) 0 (cycle_of rs)) (length rs) i = tight_first (ends rs) (whole rs) 0 (cycle_of rs) (length rs) i (tight_refusal i d) in
           record {
@@ -79,7 +80,7 @@ module _ (t : Table) (e : rows_refusal t ≡ None) where
             first = λ k j l h. never (short_lacks rs good k j (omega (arith, a.row)) h) (a.none_before k l);
           }
 
-      back : TightAt rs i → table_refusal t ≡ Tight (suc i)
+      back : TightAt rs i → table_refusal t ≡ Some (Tight (suc i))
       back a =
           refusal_tight i
           (first_tight (ends rs) (whole rs) 0 (cycle_of rs) (length rs) i (record {

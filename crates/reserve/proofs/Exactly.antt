@@ -2,6 +2,7 @@
 -- and for an acceptance, in 01's order. What specs/Exactly says of a refusal brings it about (the laws `-if`), and of every table it says something of some refusal (the laws
 -- `some-`): so each is given exactly when.
 -- Assumes nothing.
+use Rattle.std.specs.Prelude.{Option, Some, None}
 use mathlib.Core.Path.{◌≡◌, refl, sym, ap, ◌∙◌, subst}
 use mathlib.Core.Logic.{◌⊎◌, inl, inr, ◌↔◌, ⊎_elim}
 use mathlib.Core.Bool.{true, false, ◌||◌}
@@ -16,7 +17,7 @@ use lib.Dec.{ltb, eqb}
 use lib.ListN.{length, drop, drop_of_length-le}
 use lib.Seq.{drop-cons}
 use Rattle.refusal.specs.declared.Refusal.{Refusal}
-use Rattle.refusal.specs.declared.Refusal.TheVariants.{None, Empty, Many, Zero, Long, Order, Cycle, Tight, Room, Dosing, Record, Report, Size, Spans, Stray, Version}
+use Rattle.refusal.specs.declared.Refusal.TheVariants.{Empty, Many, Zero, Long, Order, Cycle, Tight, Room, Dosing, Record, Report, Size, Spans, Stray, Version}
 use Rattle.refusal.specs.Order.{accepted, given, or_else}
 use Rattle.refusal.proofs.Order.{passes}
 use Rattle.table.specs.declared.Row.{Row}
@@ -83,21 +84,21 @@ module _ (rs : List Row) where
   early_or i = ⊎_elim (λ l. inl (less_early rs i l)) (λ l. inr (λ e. omega (arith, early_less rs i e))) (side (row_at rs i).period (before rs i))
 
   -- ---- the fault of row i: 'in each row 3, 4, 5'
-  abbrev fault : ℕ → Refusal
+  abbrev fault : ℕ → Option Refusal
   fault i = fault_of (suc i) (before rs i) (row_at rs i)
 
   module _ (i : ℕ) where
-    fault_zero : ZeroRow (row_at rs i) → fault i ≡ Zero (suc i)
+    fault_zero : ZeroRow (row_at rs i) → fault i ≡ Some (Zero (suc i))
     unfolding fault_of or_else
     fault_zero z = rw (zero_test (row_at rs i) z)
 
     module _ (z : ZeroRow (row_at rs i) → ⊥) where
-      fault_long : LongRow (row_at rs i) → fault i ≡ Long (suc i)
+      fault_long : LongRow (row_at rs i) → fault i ≡ Some (Long (suc i))
       unfolding fault_of or_else
       fault_long l = rw (no_zero (row_at rs i) z, long_test (row_at rs i) l)
 
       module _ (l : LongRow (row_at rs i) → ⊥) where
-        fault_order : EarlyRow rs i → fault i ≡ Order (suc i)
+        fault_order : EarlyRow rs i → fault i ≡ Some (Order (suc i))
         unfolding fault_of or_else
         fault_order e = rw (no_zero (row_at rs i) z, no_long (row_at rs i) l, lt-ltb (row_at rs i).period (before rs i) (early_less rs i e))
 
@@ -109,7 +110,7 @@ module _ (rs : List Row) where
             (side (row_at rs i).period (before rs i))
 
   -- ---- 'then rows from the first': the faults of the rows from row i on
-  abbrev onward : ℕ → Refusal
+  abbrev onward : ℕ → Option Refusal
   onward i = faults_of (suc i) (before rs i) (drop i rs)
 
   onward_step : (i : ℕ) → i < length rs → onward i ≡ or_else (fault i) (onward (suc i))
@@ -133,12 +134,12 @@ module _ (rs : List Row) where
       let end : length rs ≤ length rs = omega arith in
       onward_from (length rs) end s ∙ ap (faults_of (suc (length rs)) (before rs (length rs))) (drop_of_length-le rs end)
 
-  faults_row : (i : ℕ) (f : Refusal) → Reached rs i → fault i ≡ f → accepted f ≡ false → faults_of 1 0 rs ≡ f
+  faults_row : (i : ℕ) (f : Option Refusal) → Reached rs i → fault i ≡ f → accepted f ≡ false → faults_of 1 0 rs ≡ f
   unfolding or_else
   faults_row i f r e a = onward_from i (omega (arith, r.row)) r.before ∙ onward_step i r.row ∙ rw (e, a)
 
 -- ---- where each thing that `Gives` says of a refusal brings it about, and it says something of some refusal, each is given exactly when it says so
-pub exact : {r : Refusal} (Gives : Refusal → Type 0) → ((f : Refusal) → Gives f → r ≡ f) → (f : Refusal) × Gives f → (f : Refusal) → (r ≡ f) ↔ Gives f
+pub exact : {r : Option Refusal} (Gives : Option Refusal → Type 0) → ((f : Option Refusal) → Gives f → r ≡ f) → (f : Option Refusal) × Gives f → (f : Option Refusal) → (r ≡ f) ↔ Gives f
 exact Gives brings some f = (λ e. subst Gives (sym (brings some.0 some.1) ∙ e) some.1, brings f)
 
 module _ (t : Table) where
@@ -146,11 +147,11 @@ module _ (t : Table) where
   rs = used t
 
   -- ---- 1 to 6: what is said of each refusal brings it about
-  given_empty : t.n ≡ 0 → rows_refusal t ≡ Empty
+  given_empty : t.n ≡ 0 → rows_refusal t ≡ (Some Empty)
   unfolding rows_refusal or_else
   given_empty e = simp (eq-eqb _ _ e)
 
-  given_many : 16 < t.n → rows_refusal t ≡ Many
+  given_many : 16 < t.n → rows_refusal t ≡ (Some Many)
   unfolding rows_refusal or_else
   given_many l = simp (ne_eqb t.n 0 (λ z. omega arith), lt-ltb _ _ l)
 
@@ -159,13 +160,13 @@ module _ (t : Table) where
   unfolding rows_refusal or_else
   counted c = simp (ne_eqb t.n 0 (λ z. omega arith), le-ltb 16 t.n c.1)
 
-  given_row : {k : ℕ} {What : ℕ → Type 0} (f : ℕ → Refusal) → accepted (f k) ≡ false → ((i : ℕ) → What i → fault rs i ≡ f (suc i)) → RowGives t k What → rows_refusal t ≡ f k
+  given_row : {k : ℕ} {What : ℕ → Type 0} (f : ℕ → Option Refusal) → accepted (f k) ≡ false → ((i : ℕ) → What i → fault rs i ≡ f (suc i)) → RowGives t k What → rows_refusal t ≡ f k
   unfolding or_else
   given_row {k} f a h g =
       rw (counted g.counted, faults_row rs g.i (f k) g.reached (h g.i g.what ∙ ap f (sym g.named)) a, a)
 
   module _ (c : Counted t) (s : AllClear rs) where
-    given_cycle : 4096 < cycle_of rs → rows_refusal t ≡ Cycle
+    given_cycle : 4096 < cycle_of rs → rows_refusal t ≡ (Some Cycle)
     unfolding or_else
     given_cycle l = rw (counted c, faults_none rs s, lt-ltb 4096 (cycle_of rs) l)
 
@@ -174,38 +175,38 @@ module _ (t : Table) where
     given_none l = rw (counted c, faults_none rs s, le-ltb 4096 (cycle_of rs) l)
 
   -- nothing gives the variants that have no clause here
-  rows_if : (f : Refusal) → RowsGives t f → rows_refusal t ≡ f
+  rows_if : (f : Option Refusal) → RowsGives t f → rows_refusal t ≡ f
   unfolding RowsGives
   rows_if None g = given_none g.0 g.1 g.2
-  rows_if Empty g = given_empty g
-  rows_if Many g = given_many g
-  rows_if (Zero k) g = given_row Zero refl (fault_zero rs) g
-  rows_if (Long k) g = given_row Long refl (λ i w. fault_long rs i w.0 w.1) g
-  rows_if (Order k) g = given_row Order refl (λ i w. fault_order rs i w.0 w.1 w.2) g
-  rows_if Cycle g = given_cycle g.0 g.1 g.2
-  rows_if (Tight _) g = elim g [ ]
-  rows_if Room g = elim g [ ]
-  rows_if Record g = elim g [ ]
-  rows_if Report g = elim g [ ]
-  rows_if Stray g = elim g [ ]
-  rows_if Size g = elim g [ ]
-  rows_if Version g = elim g [ ]
-  rows_if Dosing g = elim g [ ]
-  rows_if Spans g = elim g [ ]
+  rows_if (Some Empty) g = given_empty g
+  rows_if (Some Many) g = given_many g
+  rows_if (Some (Zero k)) g = given_row (λ k. Some (Zero k)) refl (fault_zero rs) g
+  rows_if (Some (Long k)) g = given_row (λ k. Some (Long k)) refl (λ i w. fault_long rs i w.0 w.1) g
+  rows_if (Some (Order k)) g = given_row (λ k. Some (Order k)) refl (λ i w. fault_order rs i w.0 w.1 w.2) g
+  rows_if (Some Cycle) g = given_cycle g.0 g.1 g.2
+  rows_if (Some (Tight _)) g = elim g [ ]
+  rows_if (Some Room) g = elim g [ ]
+  rows_if (Some Record) g = elim g [ ]
+  rows_if (Some Report) g = elim g [ ]
+  rows_if (Some Stray) g = elim g [ ]
+  rows_if (Some Size) g = elim g [ ]
+  rows_if (Some Version) g = elim g [ ]
+  rows_if (Some Dosing) g = elim g [ ]
+  rows_if (Some Spans) g = elim g [ ]
 
   -- ---- and of every table one of these things can be said
   abbrev SomeRows : Type 0
-  SomeRows = (f : Refusal) × RowsGives t f
+  SomeRows = (f : Option Refusal) × RowsGives t f
 
   module _ (c : Counted t) where
     row_gives : (i : ℕ) → Reached rs i → ClearRow rs i ⊎ SomeRows
     unfolding RowsGives
     row_gives i r =
-        ⊎_elim (λ z. inr (Zero (suc i), record { counted = c; i = i; named = refl; reached = r; what = z }))
+        ⊎_elim (λ z. inr (Some (Zero (suc i)), record { counted = c; i = i; named = refl; reached = r; what = z }))
         (λ z.
-        ⊎_elim (λ l. inr (Long (suc i), record { counted = c; i = i; named = refl; reached = r; what = (z, l) }))
+        ⊎_elim (λ l. inr (Some (Long (suc i)), record { counted = c; i = i; named = refl; reached = r; what = (z, l) }))
         (λ l.
-        ⊎_elim (λ e. inr (Order (suc i), record { counted = c; i = i; named = refl; reached = r; what = (z, l, e) }))
+        ⊎_elim (λ e. inr (Some (Order (suc i)), record { counted = c; i = i; named = refl; reached = r; what = (z, l, e) }))
         (λ e. inl (record { not_zero = z; not_long = l; not_early = e })) (early_or rs i)) (long_or (row_at rs i)))
         (zero_or (row_at rs i))
 
@@ -218,43 +219,43 @@ module _ (t : Table) where
 
     cycle_gives : AllClear rs → SomeRows
     unfolding RowsGives
-    cycle_gives s = ⊎_elim (λ (l : 4096 < cycle_of rs). (Cycle, (c, s, l))) (λ (l : cycle_of rs ≤ 4096). (None, (c, s, l))) (side 4096 (cycle_of rs))
+    cycle_gives s = ⊎_elim (λ (l : 4096 < cycle_of rs). (Some Cycle, (c, s, l))) (λ (l : cycle_of rs ≤ 4096). (None, (c, s, l))) (side 4096 (cycle_of rs))
 
   some_rows : SomeRows
   unfolding RowsGives
   some_rows =
-      ⊎_elim (λ (e : t.n ≡ 0). (Empty, e))
+      ⊎_elim (λ (e : t.n ≡ 0). (Some Empty, e))
       (λ (p : 0 < t.n).
-      ⊎_elim (λ (l : 16 < t.n). (Many, l)) (λ (l : t.n ≤ 16). ⊎_elim (cycle_gives (p, l)) (λ g. g) (rows_give (p, l) (length rs) (omega arith))) (side 16 t.n))
+      ⊎_elim (λ (l : 16 < t.n). (Some Many, l)) (λ (l : t.n ≤ 16). ⊎_elim (cycle_gives (p, l)) (λ g. g) (rows_give (p, l) (length rs) (omega arith))) (side 16 t.n))
       (eq-zero-or-pos t.n)
 
   -- ---- the same of 1 to 7
   -- one of 1 to 6
-  given_rows : (f : Refusal) → accepted f ≡ false → RowsGives t f → table_refusal t ≡ f
+  given_rows : (f : Option Refusal) → accepted f ≡ false → RowsGives t f → table_refusal t ≡ f
   unfolding table_refusal or_else
   given_rows f a g = rw (rows_if f g, a)
 
-  given_if : (f : Refusal) → TableGives t f → table_refusal t ≡ f
+  given_if : (f : Option Refusal) → TableGives t f → table_refusal t ≡ f
   unfolding TableGives
   given_if None g = (accepted_exactly t (rows_if None g.0)).1 g.1
-  given_if Empty g = given_rows Empty refl g
-  given_if Many g = given_rows Many refl g
-  given_if (Zero k) g = given_rows (Zero k) refl g
-  given_if (Long k) g = given_rows (Long k) refl g
-  given_if (Order k) g = given_rows (Order k) refl g
-  given_if Cycle g = given_rows Cycle refl g
-  given_if (Tight k) g = (tight_exactly t (rows_if None g.0) g.1.0).1 g.1.2 ∙ ap Tight (sym g.1.1)
-  given_if Room g = elim g [ ]
-  given_if Record g = elim g [ ]
-  given_if Report g = elim g [ ]
-  given_if Stray g = elim g [ ]
-  given_if Size g = elim g [ ]
-  given_if Version g = elim g [ ]
-  given_if Dosing g = elim g [ ]
-  given_if Spans g = elim g [ ]
+  given_if (Some Empty) g = given_rows (Some Empty) refl g
+  given_if (Some Many) g = given_rows (Some Many) refl g
+  given_if (Some (Zero k)) g = given_rows (Some (Zero k)) refl g
+  given_if (Some (Long k)) g = given_rows (Some (Long k)) refl g
+  given_if (Some (Order k)) g = given_rows (Some (Order k)) refl g
+  given_if (Some Cycle) g = given_rows (Some Cycle) refl g
+  given_if (Some (Tight k)) g = (tight_exactly t (rows_if None g.0) g.1.0).1 g.1.2 ∙ ap (λ k. Some (Tight k)) (sym g.1.1)
+  given_if (Some Room) g = elim g [ ]
+  given_if (Some Record) g = elim g [ ]
+  given_if (Some Report) g = elim g [ ]
+  given_if (Some Stray) g = elim g [ ]
+  given_if (Some Size) g = elim g [ ]
+  given_if (Some Version) g = elim g [ ]
+  given_if (Some Dosing) g = elim g [ ]
+  given_if (Some Spans) g = elim g [ ]
 
   abbrev SomeGives : Type 0
-  SomeGives = (f : Refusal) × TableGives t f
+  SomeGives = (f : Option Refusal) × TableGives t f
 
   -- where 1 to 6 accept
   rule_gives : RowsGives t None → SomeGives
@@ -266,42 +267,42 @@ module _ (t : Table) where
 
       go : (k : ℕ) → given (ltb 0 k) (Tight k) ≡ table_refusal t → SomeGives
       go zero d = (None, (g, (accepted_exactly t e).0 (sym d)))
-      go (suc i) d = (Tight (suc i), (g, (i, refl, (tight_exactly t e i).0 (sym (rw (lt-ltb 0 (suc i) (omega arith)) at d)))))
+      go (suc i) d = (Some (Tight (suc i)), (g, (i, refl, (tight_exactly t e i).0 (sym (rw (lt-ltb 0 (suc i) (omega arith)) at d)))))
 
-  some_gives : (f : Refusal) → RowsGives t f → SomeGives
+  some_gives : (f : Option Refusal) → RowsGives t f → SomeGives
   unfolding TableGives RowsGives
   some_gives None g = rule_gives g
-  some_gives Empty g = (Empty, g)
-  some_gives Many g = (Many, g)
-  some_gives (Zero k) g = (Zero k, g)
-  some_gives (Long k) g = (Long k, g)
-  some_gives (Order k) g = (Order k, g)
-  some_gives Cycle g = (Cycle, g)
-  some_gives (Tight _) g = elim g [ ]
-  some_gives Room g = elim g [ ]
-  some_gives Record g = elim g [ ]
-  some_gives Report g = elim g [ ]
-  some_gives Stray g = elim g [ ]
-  some_gives Size g = elim g [ ]
-  some_gives Version g = elim g [ ]
-  some_gives Dosing g = elim g [ ]
-  some_gives Spans g = elim g [ ]
+  some_gives (Some Empty) g = (Some Empty, g)
+  some_gives (Some Many) g = (Some Many, g)
+  some_gives (Some (Zero k)) g = (Some (Zero k), g)
+  some_gives (Some (Long k)) g = (Some (Long k), g)
+  some_gives (Some (Order k)) g = (Some (Order k), g)
+  some_gives (Some Cycle) g = (Some Cycle, g)
+  some_gives (Some (Tight _)) g = elim g [ ]
+  some_gives (Some Room) g = elim g [ ]
+  some_gives (Some Record) g = elim g [ ]
+  some_gives (Some Report) g = elim g [ ]
+  some_gives (Some Stray) g = elim g [ ]
+  some_gives (Some Size) g = elim g [ ]
+  some_gives (Some Version) g = elim g [ ]
+  some_gives (Some Dosing) g = elim g [ ]
+  some_gives (Some Spans) g = elim g [ ]
 
 -- 'Given exactly when': 1 to 6
-pub rows_gives : (t : Table) (f : Refusal) → (rows_refusal t ≡ f) ↔ RowsGives t f
+pub rows_gives : (t : Table) (f : Option Refusal) → (rows_refusal t ≡ f) ↔ RowsGives t f
 rows_gives t = exact (RowsGives t) (rows_if t) (some_rows t)
 
 -- 1 to 7
-pub table_gives : (t : Table) (f : Refusal) → (table_refusal t ≡ f) ↔ TableGives t f
+pub table_gives : (t : Table) (f : Option Refusal) → (table_refusal t ≡ f) ↔ TableGives t f
 table_gives t = exact (TableGives t) (given_if t) (some_gives t (some_rows t).0 (some_rows t).1)
 
 -- and one is given at most
-pub gives_one : (t : Table) (f g : Refusal) → TableGives t f → TableGives t g → f ≡ g
+pub gives_one : (t : Table) (f g : Option Refusal) → TableGives t f → TableGives t g → f ≡ g
 gives_one t f g p q = sym ((table_gives t f).1 p) ∙ (table_gives t g).1 q
 
 -- ---- the same where a list is handed out
 module _ (t : Table) (new old : List ℕ) where
-  abbrev room : Refusal
+  abbrev room : Option Refusal
   room = given (ltb (length old) (length new)) Room
 
   -- none of 1 to 7
@@ -310,47 +311,47 @@ module _ (t : Table) (new old : List ℕ) where
   handed_last g = sym (passes (table_refusal t) room (given_if t None g))
 
   -- one of them
-  handed_table : (f : Refusal) → accepted f ≡ false → TableGives t f → handed_refusal t new old ≡ f
+  handed_table : (f : Option Refusal) → accepted f ≡ false → TableGives t f → handed_refusal t new old ≡ f
   unfolding handed_refusal or_else
   handed_table f a g = rw (given_if t f g, a)
 
-  handed_if : (f : Refusal) → HandedGives t new old f → handed_refusal t new old ≡ f
+  handed_if : (f : Option Refusal) → HandedGives t new old f → handed_refusal t new old ≡ f
   unfolding HandedGives
   handed_if None g = handed_last g.0 ∙ rw (le-ltb (length old) (length new) g.1)
-  handed_if Room g = handed_last g.0 ∙ rw (lt-ltb (length old) (length new) g.1)
-  handed_if Empty g = handed_table Empty refl g
-  handed_if Many g = handed_table Many refl g
-  handed_if (Zero k) g = handed_table (Zero k) refl g
-  handed_if (Long k) g = handed_table (Long k) refl g
-  handed_if (Order k) g = handed_table (Order k) refl g
-  handed_if Cycle g = handed_table Cycle refl g
-  handed_if (Tight k) g = handed_table (Tight k) refl g
-  handed_if Record g = elim g [ ]
-  handed_if Report g = elim g [ ]
-  handed_if Stray g = elim g [ ]
-  handed_if Size g = elim g [ ]
-  handed_if Version g = elim g [ ]
-  handed_if Dosing g = elim g [ ]
-  handed_if Spans g = elim g [ ]
+  handed_if (Some Room) g = handed_last g.0 ∙ rw (lt-ltb (length old) (length new) g.1)
+  handed_if (Some Empty) g = handed_table (Some Empty) refl g
+  handed_if (Some Many) g = handed_table (Some Many) refl g
+  handed_if (Some (Zero k)) g = handed_table (Some (Zero k)) refl g
+  handed_if (Some (Long k)) g = handed_table (Some (Long k)) refl g
+  handed_if (Some (Order k)) g = handed_table (Some (Order k)) refl g
+  handed_if (Some Cycle) g = handed_table (Some Cycle) refl g
+  handed_if (Some (Tight k)) g = handed_table (Some (Tight k)) refl g
+  handed_if (Some Record) g = elim g [ ]
+  handed_if (Some Report) g = elim g [ ]
+  handed_if (Some Stray) g = elim g [ ]
+  handed_if (Some Size) g = elim g [ ]
+  handed_if (Some Version) g = elim g [ ]
+  handed_if (Some Dosing) g = elim g [ ]
+  handed_if (Some Spans) g = elim g [ ]
 
-  some_handed : (f : Refusal) → TableGives t f → (f : Refusal) × HandedGives t new old f
+  some_handed : (f : Option Refusal) → TableGives t f → (f : Option Refusal) × HandedGives t new old f
   unfolding HandedGives TableGives
-  some_handed None g = ⊎_elim (λ (l : length old < length new). (Room, (g, l))) (λ (l : length new ≤ length old). (None, (g, l))) (side (length old) (length new))
-  some_handed Empty g = (Empty, g)
-  some_handed Many g = (Many, g)
-  some_handed (Zero k) g = (Zero k, g)
-  some_handed (Long k) g = (Long k, g)
-  some_handed (Order k) g = (Order k, g)
-  some_handed Cycle g = (Cycle, g)
-  some_handed (Tight k) g = (Tight k, g)
-  some_handed Room g = elim g [ ]
-  some_handed Record g = elim g [ ]
-  some_handed Report g = elim g [ ]
-  some_handed Stray g = elim g [ ]
-  some_handed Size g = elim g [ ]
-  some_handed Version g = elim g [ ]
-  some_handed Dosing g = elim g [ ]
-  some_handed Spans g = elim g [ ]
+  some_handed None g = ⊎_elim (λ (l : length old < length new). (Some Room, (g, l))) (λ (l : length new ≤ length old). (None, (g, l))) (side (length old) (length new))
+  some_handed (Some Empty) g = (Some Empty, g)
+  some_handed (Some Many) g = (Some Many, g)
+  some_handed (Some (Zero k)) g = (Some (Zero k), g)
+  some_handed (Some (Long k)) g = (Some (Long k), g)
+  some_handed (Some (Order k)) g = (Some (Order k), g)
+  some_handed (Some Cycle) g = (Some Cycle, g)
+  some_handed (Some (Tight k)) g = (Some (Tight k), g)
+  some_handed (Some Room) g = elim g [ ]
+  some_handed (Some Record) g = elim g [ ]
+  some_handed (Some Report) g = elim g [ ]
+  some_handed (Some Stray) g = elim g [ ]
+  some_handed (Some Size) g = elim g [ ]
+  some_handed (Some Version) g = elim g [ ]
+  some_handed (Some Dosing) g = elim g [ ]
+  some_handed (Some Spans) g = elim g [ ]
 
-  pub handed_gives : (f : Refusal) → (handed_refusal t new old ≡ f) ↔ HandedGives t new old f
+  pub handed_gives : (f : Option Refusal) → (handed_refusal t new old ≡ f) ↔ HandedGives t new old f
   handed_gives = exact (HandedGives t new old) handed_if (some_handed (table_refusal t) ((table_gives t (table_refusal t)).0 refl))

@@ -6,7 +6,6 @@ pub mod Pass
 pub mod Lower
 pub mod Down
 pub mod Sweeps
-pub mod Alternates
 pub mod FirstSlots
 pub mod Scanning
 pub mod Verdict

@@ -2,9 +2,9 @@
 -- Assumes nothing.
 use mathlib.Core.Path.{◌≡◌, refl, sym, ap, ◌∙◌}
 use mathlib.Core.Logic.{⊎_elim}
-use mathlib.Core.Bool.{Bool, true, false, cond, ◌&&◌, ◌||◌}
+use mathlib.Core.Bool.{Bool, true, cond, ◌&&◌}
 use mathlib.Core.List.{List}
-use Prim.Native.Nat.{ℕ, suc, ◌+◌, ◌-◌, ◌%◌, ◌≤◌, ◌<◌}
+use Prim.Native.Nat.{ℕ, suc, ◌+◌, ◌-◌, ◌≤◌, ◌<◌}
 use native.Mathlib.Nat.{eq-or-lt_of_le}
 use native.Mathlib.Numerals.{add-one}
 use native.Mathlib.Omega.{arith}
@@ -13,8 +13,6 @@ use lib.ListN.{get_or, set, length}
 use lib.Seq.{get_or-set_same, get_or-set_other}
 use borrow.Author.Count.{below_none, below_more}
 use borrow.Author.Tests.{eq-eqb, ne_eqb, lt-ltb, ltb-true}
-use Rattle.table.specs.declared.Row.{Row}
-use Rattle.table.specs.Windows.{window_end, wants, starts}
 use Rattle.rule.specs.Slots.{unit, or_row, first_row}
 use Rattle.rule.specs.Rule.{held, takes, holder, short, begins, Windows, Claims}
 use Rattle.rule.specs.Sweep.{rem}
@@ -23,37 +21,7 @@ use Rattle.rule.proofs.Facts.{from, leaves_held, short_few, short_not}
 use Rattle.rule.proofs.FirstRow.{row_found, first_row_suc}
 use Rattle.rule.proofs.Holders.{holder_free, free_holder, holder_suc}
 use Rattle.rule.proofs.Remainders.{met, unmet, taken_left, rem_step, rem_last, rem_short}
-use Rattle.reserve.specs.Turns.{claim_at, Coming, Turned}
-
--- ---- a window's claim, its last slot and its first usable one, as the code tells them
-module _ (r : Row) (c units t e : ℕ) (is_end : e ≡ window_end r t) (k : ℕ) where
-  module _ (f : ℕ) (clock-end : f ≡ window_end r c) where
-    pub claim_left : e ≡ f → k ≡ units → k ≡ claim_at r c units t
-    claim_left h q = rw (eq-eqb (window_end r t) (window_end r c) (sym is_end ∙ h ∙ clock-end)) q
-
-    pub claim_whole : (e ≡ f → ⊥) → k ≡ r.alternate → k ≡ claim_at r c units t
-    unfolding wants
-    claim_whole h q = rw (ne_eqb (window_end r t) (window_end r c) (λ z. h (is_end ∙ z ∙ sym clock-end))) q
-
-  module _ (rest : ℕ) where
-    pub arrived_last : e ≡ t + 1 → k ≡ claim_at r c units t → k ≡ cond (eqb (window_end r t) (suc t)) (claim_at r c units t) rest
-    arrived_last h q = rw (eq-eqb (window_end r t) (suc t) (omega arith)) q
-
-    pub arrived_on : (e ≡ t + 1 → ⊥) → k ≡ rest → k ≡ cond (eqb (window_end r t) (suc t)) (claim_at r c units t) rest
-    arrived_on h q = rw (ne_eqb (window_end r t) (suc t) (λ z. h (omega arith))) q
-
-module _ (r : Row) (c t y : ℕ) where
-  pub short_clock : t ≡ c → ltb 0 y ≡ ((eqb t c || starts r t) && ltb 0 y)
-  short_clock h = simp (eq-eqb t c h)
-
-  module _ (h : t ≡ c → ⊥) where
-    pub short_start : t % r.period ≡ 0 → ltb 0 y ≡ ((eqb t c || starts r t) && ltb 0 y)
-    unfolding starts
-    short_start q = simp (ne_eqb t c h, eq-eqb (t % r.period) 0 q)
-
-    pub short_on : (t % r.period ≡ 0 → ⊥) → false ≡ ((eqb t c || starts r t) && ltb 0 y)
-    unfolding starts
-    short_on q = simp (ne_eqb t c h, ne_eqb (t % r.period) 0 q)
+use Rattle.reserve.specs.Turns.{Coming, Turned}
 
 -- ---- one row at one slot
 module _ {E K : ℕ → ℕ → ℕ} {n : ℕ} (win : Windows E n) (cl : Claims E K n) (i s : ℕ) (row : i < n) where

@@ -1,25 +1,24 @@
 -- The answer of a table's check, from what the code has found on each way out.
 -- Assumes nothing.
-use mathlib.Core.Path.{◌≡◌, refl, sym, ap, ◌∙◌}
+use Rattle.std.specs.Prelude.{Option, Some, None, Ok, Err}
+use mathlib.Core.Path.{◌≡◌, sym, ap, ◌∙◌}
 use mathlib.Core.List.{List}
-use Prim.Native.Nat.{ℕ, ◌≤◌}
+use Prim.Native.Nat.{ℕ}
 use native.Mathlib.Omega.{arith}
 use native.Mathlib.Nat.{pos_of_ne-zero}
 use borrow.Author.Tests.{lt-ltb, le-ltb}
 use lib.Dec.{ltb}
 use Rattle.refusal.specs.declared.Refusal.{Refusal}
-use Rattle.refusal.specs.declared.Refusal.TheVariants.{None, Tight}
-use Rattle.refusal.specs.Order.{given, or_else, beside}
-use Rattle.refusal.proofs.Order.{Told, keeps, passes, none_first, beside_refused, beside_none}
+use Rattle.refusal.specs.declared.Refusal.TheVariants.{Tight}
+use Rattle.refusal.specs.Order.{given, or_else}
+use Rattle.refusal.proofs.Order.{passes, none_first, answer_ok, answer_err, ok_none, ok_figure, err_some}
 use Rattle.table.specs.declared.Table.{Table}
-use Rattle.table.specs.declared.Checked.{Checked}
 use Rattle.table.specs.Rows.{used, cycle_of}
 use Rattle.table.specs.Check.{rows_refusal, rows_check}
 use Rattle.table.proofs.Check.{Accepted, accepted_rows, past_ignored}
 use Rattle.reserve.specs.Check.{tight_of, table_refusal, table_check}
 use Rattle.reserve.specs.HandOut.{handed_refusal, handed, handed_over}
 use Rattle.reserve.specs.Turns.{Ready}
-use Rattle.reserve.proofs.Ready.{cycle_fits}
 
 -- where 1 to 6 accept, the rule decides
 pub after_rows : (t : Table) → rows_refusal t ≡ None → given (ltb 0 (tight_of (used t))) (Tight (tight_of (used t))) ≡ table_refusal t
@@ -27,37 +26,34 @@ unfolding table_refusal
 after_rows t e = passes (rows_refusal t) (given (ltb 0 (tight_of (used t))) (Tight (tight_of (used t)))) e
 
 -- ---- the ways out of the check, after that of the rows
-module _ (t : Table) (rows : Checked) (e : rows ≡ rows_check t) where
-  pub is_refusal : rows.refusal ≡ rows_refusal t
-  unfolding rows_check
-  is_refusal = ap (λ (c : Checked). c.refusal) e
+module _ (t : Table) where
+  pub check_refused : (f : Refusal) → rows_check t ≡ Err f → Err f ≡ table_check t
+  unfolding rows_check table_check table_refusal or_else
+  check_refused f e =
+      answer_err (table_refusal t) (cycle_of (used t)) f
+      (ap (λ (g : Option Refusal). or_else g (given (ltb 0 (tight_of (used t))) (Tight (tight_of (used t))))) (err_some (rows_refusal t) (cycle_of (used t)) f e))
 
-  pub rows_ready : rows.refusal ≡ None → Ready t rows.cycle
-  unfolding rows_check
-  rows_ready d =
-      let z : rows_refusal t ≡ None = sym is_refusal ∙ d in
-      record { rows = z; is_cycle = ap (λ (c : Checked). c.cycle) e ∙ sym (beside_none (rows_refusal t) (cycle_of (used t)) z) }
+  module _ (cycle : ℕ) (e : rows_check t ≡ Ok cycle) where
+    rows_none : rows_refusal t ≡ None
+    unfolding rows_check
+    rows_none = ok_none (rows_refusal t) (cycle_of (used t)) cycle e
 
-  answered : (f : Refusal) (c : ℕ) → f ≡ table_refusal t → c ≡ beside f (cycle_of (used t)) → ◌≡◌ {A = Checked} (record { refusal = f; cycle = c }) (table_check t)
-  unfolding table_check
-  answered f c h g = rw (g, h)
+    pub rows_ready : Ready t cycle
+    unfolding rows_check
+    rows_ready = record { rows = rows_none; is_cycle = sym (ok_figure (rows_refusal t) (cycle_of (used t)) cycle e) }
 
-  pub check_refused : Told rows.refusal → ◌≡◌ {A = Checked} (record { refusal = rows.refusal; cycle = 0 }) (table_check t)
-  unfolding table_refusal
-  check_refused p =
-      let later = given (ltb 0 (tight_of (used t))) (Tight (tight_of (used t))) in
-      answered rows.refusal 0 (keeps rows.refusal later p ∙ ap (λ (f : Refusal). or_else f later) is_refusal) (beside_refused rows.refusal (cycle_of (used t)) p)
+    module _ (k : ℕ) (h : k ≡ tight_of (used t)) where
+      last : table_refusal t ≡ given (ltb 0 k) (Tight k)
+      last = rw h (sym (after_rows t rows_none))
 
-  module _ (d : rows.refusal ≡ None) (k : ℕ) (h : k ≡ tight_of (used t)) where
-    last : given (ltb 0 k) (Tight k) ≡ table_refusal t
-    last = rw h (after_rows t (sym is_refusal ∙ d))
+      pub check_none : k ≡ 0 → Ok cycle ≡ table_check t
+      unfolding table_check
+      check_none z =
+          ap Ok rows_ready.is_cycle ∙ answer_ok (table_refusal t) (cycle_of (used t)) (last ∙ rw (le-ltb 0 k (omega arith)))
 
-    pub check_none : k ≡ 0 → ◌≡◌ {A = Checked} (record { refusal = None; cycle = rows.cycle }) (table_check t)
-    check_none z = answered None rows.cycle (rw (le-ltb 0 k (omega arith)) at last) ((rows_ready d).is_cycle ∙ beside_none None (cycle_of (used t)) refl)
-
-    pub check_tight : (k ≡ 0 → ⊥) → ◌≡◌ {A = Checked} (record { refusal = Tight k; cycle = 0 }) (table_check t)
-    unfolding beside
-    check_tight z = answered (Tight k) 0 (rw (lt-ltb 0 k (pos_of_ne-zero z)) at last) refl
+      pub check_tight : (k ≡ 0 → ⊥) → Err (Tight k) ≡ table_check t
+      unfolding table_check
+      check_tight z = answer_err (table_refusal t) (cycle_of (used t)) (Tight k) (last ∙ rw (lt-ltb 0 k (pos_of_ne-zero z)))
 
 -- ---- a table that the check accepts
 module _ (t : Table) (z : table_refusal t ≡ None) where
@@ -68,19 +64,20 @@ module _ (t : Table) (z : table_refusal t ≡ None) where
   pub table_accepted : Accepted t
   table_accepted = accepted_rows t table_rows
 
-module _ (t : Table) (checked : Checked) (e : checked ≡ table_check t) where
-  pub checked_refusal : checked.refusal ≡ table_refusal t
+module _ (t : Table) where
+  pub refused_table : (f : Refusal) → table_check t ≡ Err f → table_refusal t ≡ Some f
   unfolding table_check
-  checked_refusal = ap (λ (c : Checked). c.refusal) e
+  refused_table f = err_some (table_refusal t) (cycle_of (used t)) f
 
-  pub table_ready : checked.refusal ≡ None → Ready t checked.cycle
-  unfolding table_check
-  table_ready d =
-      let z : table_refusal t ≡ None = sym checked_refusal ∙ d in
-      record { rows = table_rows t z; is_cycle = ap (λ (c : Checked). c.cycle) e ∙ sym (beside_none (table_refusal t) (cycle_of (used t)) z) }
+  module _ (cycle : ℕ) (e : table_check t ≡ Ok cycle) where
+    pub checked_none : table_refusal t ≡ None
+    unfolding table_check
+    checked_none = ok_none (table_refusal t) (cycle_of (used t)) cycle e
 
-  pub table_fits : checked.refusal ≡ None → checked.cycle ≤ 4096
-  table_fits d = cycle_fits (table_ready d)
+    pub table_ready : Ready t cycle
+    unfolding table_check
+    table_ready =
+        record { rows = table_rows t checked_none; is_cycle = sym (ok_figure (table_refusal t) (cycle_of (used t)) cycle e) }
 
 -- ---- places past the rows are ignored, whatever they hold
 module _ (t t' : Table) (n : t.n ≡ t'.n) (u : used t ≡ used t') where

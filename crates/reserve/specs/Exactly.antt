@@ -1,9 +1,9 @@
 -- When each refusal of a table given as rows is given, in the words of document 01's table 'Numbers of refusal' and of its order: 'The first that applies is given, and a
 -- later one only if no earlier one applies.' The chain of tests that the code meets is not in it. Rows are counted from 0 here: row i is document 01's row i + 1.
 -- Assumes nothing: these are definitions.
-use Rattle.std.specs.Prelude.{◌≡◌, ◌⊎◌, List, ℕ, zero, suc, ◌≤◌, ◌<◌, length}
+use Rattle.std.specs.Prelude.{Option, Some, None, ◌≡◌, ◌⊎◌, List, ℕ, zero, suc, ◌≤◌, ◌<◌, length}
 use Rattle.refusal.specs.declared.Refusal.{Refusal}
-use Rattle.refusal.specs.declared.Refusal.TheVariants.{None, Empty, Many, Zero, Long, Order, Cycle, Tight, Room, Record, Report, Stray, Size, Version, Dosing, Spans}
+use Rattle.refusal.specs.declared.Refusal.TheVariants.{Empty, Many, Zero, Long, Order, Cycle, Tight, Room, Record, Report, Stray, Size, Version, Dosing, Spans}
 use Rattle.table.specs.declared.Row.{Row}
 use Rattle.table.specs.declared.Table.{Table}
 use Rattle.table.specs.Rows.{used, row_at, cycle_of}
@@ -52,69 +52,69 @@ pub record RowGives (t : Table) (k : ℕ) (What : ℕ → Type 0) : Type 0 where
   pub what : What i
 
 -- the refusal is given exactly when, of the entries that refuse a table by 1 to 6 alone
-unfoldable pub RowsGives : Table → Refusal → Type 0
+unfoldable pub RowsGives : Table → Option Refusal → Type 0
 RowsGives t None = Counted t × AllClear (used t) × (cycle_of (used t) ≤ 4096)
 -- 1: 'n is 0'
-RowsGives t Empty = t.n ≡ 0
+RowsGives t (Some Empty) = t.n ≡ 0
 -- 2: 'n is over 16'
-RowsGives t Many = 16 < t.n
+RowsGives t (Some Many) = 16 < t.n
 -- 'in each row 3, 4, 5'
-RowsGives t (Zero k) = RowGives t k (λ i. ZeroRow (row_at (used t) i))
-RowsGives t (Long k) = RowGives t k (λ i. (ZeroRow (row_at (used t) i) → ⊥) × LongRow (row_at (used t) i))
-RowsGives t (Order k) = RowGives t k (λ i. (ZeroRow (row_at (used t) i) → ⊥) × (LongRow (row_at (used t) i) → ⊥) × EarlyRow (used t) i)
+RowsGives t (Some (Zero k)) = RowGives t k (λ i. ZeroRow (row_at (used t) i))
+RowsGives t (Some (Long k)) = RowGives t k (λ i. (ZeroRow (row_at (used t) i) → ⊥) × LongRow (row_at (used t) i))
+RowsGives t (Some (Order k)) = RowGives t k (λ i. (ZeroRow (row_at (used t) i) → ⊥) × (LongRow (row_at (used t) i) → ⊥) × EarlyRow (used t) i)
 -- 'then 6': 'the cycle is over 4,096'
-RowsGives t Cycle = Counted t × AllClear (used t) × (4096 < cycle_of (used t))
+RowsGives t (Some Cycle) = Counted t × AllClear (used t) × (4096 < cycle_of (used t))
 -- the others are not about rows and their cycle
-RowsGives t (Tight k) = ⊥
-RowsGives t Room = ⊥
-RowsGives t Record = ⊥
-RowsGives t Report = ⊥
-RowsGives t Stray = ⊥
-RowsGives t Size = ⊥
-RowsGives t Version = ⊥
-RowsGives t Dosing = ⊥
-RowsGives t Spans = ⊥
+RowsGives t (Some (Tight k)) = ⊥
+RowsGives t (Some Room) = ⊥
+RowsGives t (Some Record) = ⊥
+RowsGives t (Some Report) = ⊥
+RowsGives t (Some Stray) = ⊥
+RowsGives t (Some Size) = ⊥
+RowsGives t (Some Version) = ⊥
+RowsGives t (Some Dosing) = ⊥
+RowsGives t (Some Spans) = ⊥
 
 -- and of those that refuse it by 7 too
-unfoldable pub TableGives : Table → Refusal → Type 0
+unfoldable pub TableGives : Table → Option Refusal → Type 0
 TableGives t None = RowsGives t None × ((i j : ℕ) → i < length (used t) → ShortJob (used t) i j → ⊥)
 -- 1 to 6
-TableGives t Empty = RowsGives t Empty
-TableGives t Many = RowsGives t Many
-TableGives t (Zero k) = RowsGives t (Zero k)
-TableGives t (Long k) = RowsGives t (Long k)
-TableGives t (Order k) = RowsGives t (Order k)
-TableGives t Cycle = RowsGives t Cycle
+TableGives t (Some Empty) = RowsGives t (Some Empty)
+TableGives t (Some Many) = RowsGives t (Some Many)
+TableGives t (Some (Zero k)) = RowsGives t (Some (Zero k))
+TableGives t (Some (Long k)) = RowsGives t (Some (Long k))
+TableGives t (Some (Order k)) = RowsGives t (Some (Order k))
+TableGives t (Some Cycle) = RowsGives t (Some Cycle)
 -- 'then 7': 'the reservation rule leaves a job short', and the first row with such a job is named
-TableGives t (Tight k) = RowsGives t None × ((i : ℕ) × (k ≡ suc i) × TightAt (used t) i)
+TableGives t (Some (Tight k)) = RowsGives t None × ((i : ℕ) × (k ≡ suc i) × TightAt (used t) i)
 -- the others are not about a table
-TableGives t Room = ⊥
-TableGives t Record = ⊥
-TableGives t Report = ⊥
-TableGives t Stray = ⊥
-TableGives t Size = ⊥
-TableGives t Version = ⊥
-TableGives t Dosing = ⊥
-TableGives t Spans = ⊥
+TableGives t (Some Room) = ⊥
+TableGives t (Some Record) = ⊥
+TableGives t (Some Report) = ⊥
+TableGives t (Some Stray) = ⊥
+TableGives t (Some Size) = ⊥
+TableGives t (Some Version) = ⊥
+TableGives t (Some Dosing) = ⊥
+TableGives t (Some Spans) = ⊥
 
 -- ---- what is refused where a list is handed out: `new` is the list, `old` what the lent output holds
-unfoldable pub HandedGives : Table → List ℕ → List ℕ → Refusal → Type 0
+unfoldable pub HandedGives : Table → List ℕ → List ℕ → Option Refusal → Type 0
 HandedGives t new old None = TableGives t None × (length new ≤ length old)
 -- 8, after 1 to 7: 'a lent output is shorter than its use'
-HandedGives t new old Room = TableGives t None × (length old < length new)
+HandedGives t new old (Some Room) = TableGives t None × (length old < length new)
 -- 1 to 7
-HandedGives t new old Empty = TableGives t Empty
-HandedGives t new old Many = TableGives t Many
-HandedGives t new old (Zero k) = TableGives t (Zero k)
-HandedGives t new old (Long k) = TableGives t (Long k)
-HandedGives t new old (Order k) = TableGives t (Order k)
-HandedGives t new old Cycle = TableGives t Cycle
-HandedGives t new old (Tight k) = TableGives t (Tight k)
+HandedGives t new old (Some Empty) = TableGives t (Some Empty)
+HandedGives t new old (Some Many) = TableGives t (Some Many)
+HandedGives t new old (Some (Zero k)) = TableGives t (Some (Zero k))
+HandedGives t new old (Some (Long k)) = TableGives t (Some (Long k))
+HandedGives t new old (Some (Order k)) = TableGives t (Some (Order k))
+HandedGives t new old (Some Cycle) = TableGives t (Some Cycle)
+HandedGives t new old (Some (Tight k)) = TableGives t (Some (Tight k))
 -- the others are not about a list that is handed out
-HandedGives t new old Record = ⊥
-HandedGives t new old Report = ⊥
-HandedGives t new old Stray = ⊥
-HandedGives t new old Size = ⊥
-HandedGives t new old Version = ⊥
-HandedGives t new old Dosing = ⊥
-HandedGives t new old Spans = ⊥
+HandedGives t new old (Some Record) = ⊥
+HandedGives t new old (Some Report) = ⊥
+HandedGives t new old (Some Stray) = ⊥
+HandedGives t new old (Some Size) = ⊥
+HandedGives t new old (Some Version) = ⊥
+HandedGives t new old (Some Dosing) = ⊥
+HandedGives t new old (Some Spans) = ⊥

@@ -1,7 +1,6 @@
 -- What private functions say of their work, those of the sweep and the scan and, by `Ready`, a program's: no promise names these.
 -- Assumes nothing: these are definitions.
-use Rattle.std.specs.Prelude.{◌≡◌, cond, ◌&&◌, List, ℕ, suc, ◌-◌, ◌≤◌, ◌<◌, ltb, eqb, get_or, length}
-use Rattle.refusal.specs.declared.Refusal.TheVariants.{None}
+use Rattle.std.specs.Prelude.{None, ◌≡◌, cond, ◌&&◌, List, ℕ, suc, ◌-◌, ◌≤◌, ◌<◌, ltb, eqb, get_or, length}
 use Rattle.table.specs.declared.Row.{Row}
 use Rattle.table.specs.declared.Table.{Table}
 use Rattle.table.specs.Rows.{used, row_at, cycle_of}

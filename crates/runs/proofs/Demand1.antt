@@ -3,19 +3,19 @@
 -- No contract asks anything of a caller, and the check proves that each entry ends. The rest is stated here, through the contracts of the entries as the check reads them from the
 -- source: of whatever answers and lent bytes meet them. The reader's and the writer's part stands in `tablefile` proofs/Demand2. docs/PROMISES.md names these theorems.
 -- Assumes nothing.
+use Rattle.std.specs.Prelude.{Option, Some, None}
 use mathlib.Core.Path.{◌≡◌, sym, ap, ◌∙◌, subst}
 use mathlib.Core.Logic.{◌⊎◌, ◌↔◌}
 use mathlib.Core.List.{List, [], ◌++◌}
 use Prim.Native.Nat.{ℕ, ◌≤◌, ◌<◌}
 use lib.ListN.{length, get_or, take, drop}
+use Rattle.std.specs.Result.{result_err}
 use Rattle.refusal.specs.declared.Refusal.{Refusal}
-use Rattle.refusal.specs.declared.Refusal.TheVariants.{None, Report, Stray}
+use Rattle.refusal.proofs.Order.{answer_refusal}
+use Rattle.refusal.specs.declared.Refusal.TheVariants.{Report, Stray}
 use Rattle.table.specs.declared.Table.{Table}
-use Rattle.table.specs.declared.Checked.{Checked}
 use Rattle.table.specs.Rows.{used, cycle_of}
 use Rattle.table.specs.Check.{rows_check}
-use Rattle.reserve.specs.declared.Standing.{Standing}
-use Rattle.reserve.specs.declared.Handed.{Handed}
 use Rattle.reserve.specs.Check.{table_check}
 use Rattle.reserve.specs.Lists.{reservation_list, first_slots}
 use Rattle.reserve.specs.Standing.{from_clock}
@@ -24,11 +24,8 @@ use Rattle.reserve.specs.Exactly.{RowsGives, TableGives, HandedGives}
 use Rattle.reserve.proofs.Exactly.{rows_gives, table_gives, handed_gives}
 use Rattle.slots.specs.declared.Record.{Record}
 use Rattle.slots.specs.declared.Started.{Started}
-use Rattle.slots.specs.declared.Asked.{Asked}
-use Rattle.slots.specs.declared.Awaiting.{Awaiting}
 use Rattle.slots.specs.declared.Stepped.{Stepped}
 use Rattle.slots.specs.declared.Ran.{Ran}
-use Rattle.slots.specs.declared.Lost.{Lost}
 use Rattle.slots.specs.OneSlot.{holder_at, what, byte_of}
 use Rattle.slots.specs.WaitingSet.{awaiting_of}
 use Rattle.slots.specs.Reports.{rec_after}
@@ -45,53 +42,53 @@ use Rattle.runs.proofs.Calls.{RunCall, run_from, run_table, run_reports, old_log
 use Rattle.runs.proofs.Calls.{LostCall, loss_from, loss_table, loss_reports, LostFreshCall, loss_fresh_table, loss_fresh_reports}
 
 -- a refusal that is the same as another is given exactly when that one is
-as_is : {f g : Refusal} (Gives : Refusal → Type 0) → f ≡ g → ((h : Refusal) → (g ≡ h) ↔ Gives h) → (h : Refusal) → (f ≡ h) ↔ Gives h
+as_is : {f g : Option Refusal} (Gives : Option Refusal → Type 0) → f ≡ g → ((h : Option Refusal) → (g ≡ h) ↔ Gives h) → (h : Option Refusal) → (f ≡ h) ↔ Gives h
 as_is Gives e exactly = rw e exactly
 
 -- ---- a table
 -- `check_rows` and `from_clock`: 1 to 6
-pub rows_check_gives : (c : RowsCall) (f : Refusal) → (c.answer.refusal ≡ f) ↔ RowsGives (rows_table c) f
+pub rows_check_gives : (c : RowsCall) (f : Option Refusal) → (result_err c.answer ≡ f) ↔ RowsGives (rows_table c) f
 unfolding rows_check
-rows_check_gives c = as_is (RowsGives (rows_table c)) (ap (λ (r : Checked). r.refusal) c.meets) (rows_gives (rows_table c))
+rows_check_gives c = as_is (RowsGives (rows_table c)) (ap result_err c.meets ∙ answer_refusal _ _) (rows_gives (rows_table c))
 
-pub from_clock_gives : (c : ClockCall) (f : Refusal) → (c.answer.refusal ≡ f) ↔ RowsGives (clock_table c) f
+pub from_clock_gives : (c : ClockCall) (f : Option Refusal) → (result_err c.answer ≡ f) ↔ RowsGives (clock_table c) f
 unfolding from_clock
-from_clock_gives c = as_is (RowsGives (clock_table c)) (ap (λ (r : Standing). r.refusal) c.meets) (rows_gives (clock_table c))
+from_clock_gives c = as_is (RowsGives (clock_table c)) (ap result_err c.meets ∙ answer_refusal _ _) (rows_gives (clock_table c))
 
 -- `check`: 1 to 7
-pub check_gives : (c : CheckCall) (f : Refusal) → (c.answer.refusal ≡ f) ↔ TableGives (check_table c) f
+pub check_gives : (c : CheckCall) (f : Option Refusal) → (result_err c.answer ≡ f) ↔ TableGives (check_table c) f
 unfolding table_check
-check_gives c = as_is (TableGives (check_table c)) (ap (λ (r : Checked). r.refusal) c.meets) (table_gives (check_table c))
+check_gives c = as_is (TableGives (check_table c)) (ap result_err c.meets ∙ answer_refusal _ _) (table_gives (check_table c))
 
 -- `reservations` and `first_slots`: 1 to 7, then 8
-pub reservations_gives : (c : ListCall) (f : Refusal) → (c.answer.refusal ≡ f) ↔ HandedGives (list_table c) (reservation_list (used (list_table c))) (old_list c) f
+pub reservations_gives : (c : ListCall) (f : Option Refusal) → (result_err c.answer ≡ f) ↔ HandedGives (list_table c) (reservation_list (used (list_table c))) (old_list c) f
 unfolding handed
 reservations_gives c =
     let new : List ℕ = reservation_list (used (list_table c)) in
-    as_is (HandedGives (list_table c) new (old_list c)) (ap (λ (r : Handed). r.refusal) c.meets.0) (handed_gives (list_table c) new (old_list c))
+    as_is (HandedGives (list_table c) new (old_list c)) (ap result_err c.meets.0 ∙ answer_refusal _ _) (handed_gives (list_table c) new (old_list c))
 
-pub first_slots_gives : (c : FirstsCall) (f : Refusal) → (c.answer.refusal ≡ f) ↔ HandedGives (firsts_table c) (first_slots (used (firsts_table c))) (old_firsts c) f
+pub first_slots_gives : (c : FirstsCall) (f : Option Refusal) → (result_err c.answer ≡ f) ↔ HandedGives (firsts_table c) (first_slots (used (firsts_table c))) (old_firsts c) f
 unfolding handed
 first_slots_gives c =
     let new : List ℕ = first_slots (used (firsts_table c)) in
-    as_is (HandedGives (firsts_table c) new (old_firsts c)) (ap (λ (r : Handed). r.refusal) c.meets.0) (handed_gives (firsts_table c) new (old_firsts c))
+    as_is (HandedGives (firsts_table c) new (old_firsts c)) (ap result_err c.meets.0 ∙ answer_refusal _ _) (handed_gives (firsts_table c) new (old_firsts c))
 
 -- `fresh`: 1 to 7
-pub fresh_gives : (c : FreshCall) (f : Refusal) → (c.answer.refusal ≡ f) ↔ TableGives (fresh_table c) f
+pub fresh_gives : (c : FreshCall) (f : Option Refusal) → (c.answer.refusal ≡ f) ↔ TableGives (fresh_table c) f
 fresh_gives c = as_is (TableGives (fresh_table c)) (ap (λ (r : Started). r.refusal) c.meets) (at_once.fresh_gives (fresh_table c))
 
 -- ---- a record and a table
 -- `what_runs` and `waiting`: 1 to 7, then 9
-pub what_runs_gives : (c : AskCall) (f : Refusal) → (c.answer.refusal ≡ f) ↔ RecordGives (asked_table c) (asked_at c) f
+pub what_runs_gives : (c : AskCall) (f : Option Refusal) → (result_err c.answer ≡ f) ↔ RecordGives (asked_table c) (asked_at c) f
 unfolding asked_of
-what_runs_gives c = as_is (RecordGives (asked_table c) (asked_at c)) (ap (λ (r : Asked). r.refusal) c.meets) (at_once.record_gives (asked_table c) (asked_at c))
+what_runs_gives c = as_is (RecordGives (asked_table c) (asked_at c)) (ap result_err c.meets ∙ answer_refusal _ _) (at_once.record_gives (asked_table c) (asked_at c))
 
-pub waiting_gives : (c : WaitCall) (f : Refusal) → (c.answer.refusal ≡ f) ↔ RecordGives (waits_table c) (waits_at c) f
+pub waiting_gives : (c : WaitCall) (f : Option Refusal) → (result_err c.answer ≡ f) ↔ RecordGives (waits_table c) (waits_at c) f
 unfolding awaiting_of
-waiting_gives c = as_is (RecordGives (waits_table c) (waits_at c)) (ap (λ (r : Awaiting). r.refusal) c.meets) (at_once.record_gives (waits_table c) (waits_at c))
+waiting_gives c = as_is (RecordGives (waits_table c) (waits_at c)) (ap result_err c.meets ∙ answer_refusal _ _) (at_once.record_gives (waits_table c) (waits_at c))
 
 -- `step`: 1 to 7, 9, then 10 before 11
-pub step_gives : (c : StepCall) (f : Refusal) → (c.answer.refusal ≡ f) ↔ SlotGives (step_table c) (step_from c) (step_report c) f
+pub step_gives : (c : StepCall) (f : Option Refusal) → (c.answer.refusal ≡ f) ↔ SlotGives (step_table c) (step_from c) (step_report c) f
 step_gives c =
     as_is (SlotGives (step_table c) (step_from c) (step_report c)) (ap (λ (r : Stepped). r.refusal) c.meets) (at_once.slot_gives (step_table c) (step_from c) (step_report c))
 
@@ -101,13 +98,13 @@ step_hands_back c =
     subst (λ (r : Stepped). (r.refusal ≡ None → ⊥) → (r.next ≡ step_from c) × (r.ran ≡ 0)) (sym c.meets) (back.step_hands_back (step_table c) (step_from c) (step_report c))
 
 -- `lost`: 1 to 7, 9, then, slot by slot, 10 before 11
-pub lost_gives : (c : LostCall) (f : Refusal) → (c.answer.refusal ≡ f) ↔ LostGives (loss_table c) (loss_from c) (loss_reports c) f
+pub lost_gives : (c : LostCall) (f : Option Refusal) → (result_err c.answer ≡ f) ↔ LostGives (loss_table c) (loss_from c) (loss_reports c) f
 lost_gives c =
-    as_is (LostGives (loss_table c) (loss_from c) (loss_reports c)) (ap (λ (r : Lost). r.refusal) c.meets) (in-lists.lost_gives (loss_table c) (loss_from c) (loss_reports c))
+    as_is (LostGives (loss_table c) (loss_from c) (loss_reports c)) (ap result_err c.meets) (in-lists.lost_gives (loss_table c) (loss_from c) (loss_reports c))
 
 -- `lost_fresh`: 'refused by 1 to 7, 10 and 11'
-pub lost_fresh_gives : (c : LostFreshCall) (f : Refusal) → (c.answer.refusal ≡ f) ↔ LostFreshGives (loss_fresh_table c) (loss_fresh_reports c) f
-lost_fresh_gives c = as_is (LostFreshGives (loss_fresh_table c) (loss_fresh_reports c)) (ap (λ (r : Lost). r.refusal) c.meets) (in-lists.lost_fresh_gives (loss_fresh_table c) (loss_fresh_reports c))
+pub lost_fresh_gives : (c : LostFreshCall) (f : Option Refusal) → (result_err c.answer ≡ f) ↔ LostFreshGives (loss_fresh_table c) (loss_fresh_reports c) f
+lost_fresh_gives c = as_is (LostFreshGives (loss_fresh_table c) (loss_fresh_reports c)) (ap result_err c.meets) (in-lists.lost_fresh_gives (loss_fresh_table c) (loss_fresh_reports c))
 
 -- ---- a call of `run`
 module _ (c : RunCall) where
@@ -135,8 +132,8 @@ module _ (c : RunCall) where
       (subst (P (ran_by t q reps old kept) (log_after t q reps old kept)) (sym c.meets.1.1) h))
 
   -- 1 to 7, 9, 8, then, slot by slot, 10 before 11; and how many slots were accepted
-  pub run_gives : (f : Refusal) (n : ℕ) → ((c.answer.refusal ≡ f) × (c.answer.slots ≡ n)) ↔ RunGivesAt (run_table c) (run_from c) (run_reports c) (old_log c) (old_buffer c) f n
-  run_gives = of_call (λ r log buffer. (f : Refusal) (n : ℕ) → ((r.refusal ≡ f) × (r.slots ≡ n)) ↔ RunGivesAt t q reps old kept f n) (in-lists.run_gives t q reps old kept)
+  pub run_gives : (f : Option Refusal) (n : ℕ) → ((c.answer.refusal ≡ f) × (c.answer.slots ≡ n)) ↔ RunGivesAt (run_table c) (run_from c) (run_reports c) (old_log c) (old_buffer c) f n
+  run_gives = of_call (λ r log buffer. (f : Option Refusal) (n : ℕ) → ((r.refusal ≡ f) × (r.slots ≡ n)) ↔ RunGivesAt t q reps old kept f n) (in-lists.run_gives t q reps old kept)
 
   -- 'the record of the last accepted slot, or the one handed in where none was'
   pub run_hands_back : c.answer.next ≡ rec_after (used (run_table c)) (run_from c) (run_reports c) c.answer.slots
@@ -153,10 +150,10 @@ module _ (c : RunCall) where
   log_old = of_call (λ r log buffer. (i : ℕ) → r.slots ≤ i → get_or log i 0 ≡ get_or old i 0) (back.log_old t q reps old kept)
 
   -- 'A refusal other than 10 or 11 leaves the buffer untouched': no slot is accepted, the record is the one handed in, and the log and the buffer are as they were
-  pub early_hands_back : (c.answer.refusal ≡ None → ⊥) → (c.answer.refusal ≡ Report → ⊥) → (c.answer.refusal ≡ Stray → ⊥)
+  pub early_hands_back : (c.answer.refusal ≡ None → ⊥) → (c.answer.refusal ≡ Some Report → ⊥) → (c.answer.refusal ≡ Some Stray → ⊥)
       → (c.answer.slots ≡ 0) × (c.answer.next ≡ run_from c) × (new_log c ≡ old_log c) × (new_buffer c ≡ old_buffer c)
   early_hands_back =
-      of_call (λ r log buffer. (r.refusal ≡ None → ⊥) → (r.refusal ≡ Report → ⊥) → (r.refusal ≡ Stray → ⊥) → (r.slots ≡ 0) × (r.next ≡ q) × (log ≡ old) × (buffer ≡ kept))
+      of_call (λ r log buffer. (r.refusal ≡ None → ⊥) → (r.refusal ≡ Some Report → ⊥) → (r.refusal ≡ Some Stray → ⊥) → (r.slots ≡ 0) × (r.next ≡ q) × (log ≡ old) × (buffer ≡ kept))
       (back.early_hands_back t q reps old kept)
 
   -- ---- 'while 10 or 11 leaves it built, even at the first slot', and so does a list that is run to its end, the empty one too

@@ -1,6 +1,8 @@
 -- Demand 2, its part on slots: 'Reservations and slot choices are those of the backward rate-monotonic rule and the basic runtime rule of Han, Shin and Wu (source document 001), as
 -- 01 fixes them on whole slots.' Of what a sound record reserves, and, through the contracts of `Record::what_runs` and `Record::run`, of the byte for each slot.
 -- Assumes nothing.
+use Rattle.refusal.specs.Order.{answer}
+use Rattle.std.specs.Prelude.{None, Ok}
 use mathlib.Core.Path.{◌≡◌, refl, sym, ap, ap₂, ◌∙◌, subst}
 use mathlib.Core.Logic.{◌≢◌}
 use mathlib.Core.Bool.{Bool, false}
@@ -10,8 +12,7 @@ use native.Mathlib.Omega.{arith}
 use borrow.Author.Tests.{eqb-true, eq-eqb, ltb-true}
 use lib.Dec.{eqb}
 use lib.ListN.{length, get_or}
-use Rattle.refusal.specs.declared.Refusal.TheVariants.{None}
-use Rattle.refusal.proofs.Order.{beside_none}
+use Rattle.refusal.proofs.Order.{ok_none, ok_figure}
 use Rattle.table.specs.declared.Row.{Row}
 use Rattle.table.specs.declared.Table.{Table}
 use Rattle.table.specs.Rows.{used, cycle_of}
@@ -28,7 +29,6 @@ use Rattle.reserve.proofs.Tables.{AllGood, windows_of, ends_within}
 use Rattle.slots.specs.declared.State.{State}
 use Rattle.slots.specs.declared.State.TheVariants.{Waiting, Failed, Done}
 use Rattle.slots.specs.declared.Record.{Record}
-use Rattle.slots.specs.declared.Asked.{Asked}
 use Rattle.slots.specs.Records.{job_at}
 use Rattle.slots.specs.Sound.{claims_of, sound, record_refusal}
 use Rattle.slots.specs.OneSlot.{holder_at, is_waiting, lowest_waiting, reserved, unreserved, what, byte_of}
@@ -120,25 +120,26 @@ module _ (rs : List Row) (good : AllGood rs) (q : Record) (ticks : q.clock < cyc
 
 -- ---- through the contracts
 -- where the public question is not refused, the record's holders say what is reserved
-pub what_runs_reserves : (c : AskCall) → length (asked_at c).jobs ≡ 16 → c.answer.refusal ≡ None → ReservedFrom (used (asked_table c)) (asked_at c) (named (used (asked_table c)) (asked_at c))
+pub what_runs_reserves : (c : AskCall) (b : ℕ) → length (asked_at c).jobs ≡ 16 → c.answer ≡ Ok b → ReservedFrom (used (asked_table c)) (asked_at c) (named (used (asked_table c)) (asked_at c))
 unfolding asked_of
-what_runs_reserves c sixteen z =
+what_runs_reserves c b sixteen z =
     let t : Table = asked_table c in
     let q : Record = asked_at c in
-    let none : record_refusal t q ≡ None = sym (ap (λ (x : Asked). x.refusal) c.meets) ∙ z in
+    let told : answer (record_refusal t q) (byte_of (what (used t) q)) ≡ Ok b = sym c.meets ∙ z in
+    let none : record_refusal t q ≡ None = ok_none _ _ b told in
     record_reserves (used t) q (table_usable t (none_table t q none)) (sound_at (used t) q sixteen (none_sound t q none))
 
 -- and the byte that it answers is that of the three points
-pub what_runs_points : (c : AskCall) → c.answer.refusal ≡ None → (A : ℕ → ℕ → Bool) → ReservedFrom (used (asked_table c)) (asked_at c) A
-    → Points (used (asked_table c)) (asked_at c) A c.answer.ran
+pub what_runs_points : (c : AskCall) (b : ℕ) → c.answer ≡ Ok b → (A : ℕ → ℕ → Bool) → ReservedFrom (used (asked_table c)) (asked_at c) A
+    → Points (used (asked_table c)) (asked_at c) A b
 unfolding asked_of sound
-what_runs_points c z A a =
+what_runs_points c b z A a =
     let t : Table = asked_table c in
     let q : Record = asked_at c in
-    let none : record_refusal t q ≡ None = sym (ap (λ (x : Asked). x.refusal) c.meets) ∙ z in
+    let told : answer (record_refusal t q) (byte_of (what (used t) q)) ≡ Ok b = sym c.meets ∙ z in
+    let none : record_refusal t q ≡ None = ok_none _ _ b told in
     let ticks : q.clock < cycle_of (used t) = ltb-true q.clock (cycle_of (used t)) (and_left _ _ (none_sound t q none)) in
-    let byte : byte_of (what (used t) q) ≡ c.answer.ran = beside_none (record_refusal t q) (byte_of (what (used t) q)) none ∙ sym (ap (λ (x : Asked). x.ran) c.meets) in
-    subst (λ (b : ℕ). Points (used t) q A b) byte (what_points (used t) (table_usable t (none_table t q none)).good q ticks A a)
+    subst (λ (x : ℕ). Points (used t) q A x) (ok_figure _ _ b told) (what_points (used t) (table_usable t (none_table t q none)).good q ticks A a)
 
 -- and of each slot of a run: its byte of the log, at the record after the slots before it
 pub run_points : (c : RunCall) → length (run_from c).jobs ≡ 16 → (n : ℕ) → n < c.answer.slots

@@ -2,6 +2,7 @@
 -- window, or its full alternate time inside that window. No job gets more primary or alternate units than its row allows, no alternate unit after its primary is done, and no
 -- primary unit after its alternate began. Other jobs' failures change none of this.' Stated through the contracts of `fresh` and `Record::run`, and of `Record::step`.
 -- Assumes nothing.
+use Rattle.std.specs.Prelude.{Option, None}
 use mathlib.Core.Path.{◌≡◌, refl, sym, ap, ap₂, ◌∙◌, subst}
 use mathlib.Core.Logic.{◌⊎◌, ⊎_elim, inl, inr}
 use mathlib.Core.List.{List, []}
@@ -9,7 +10,6 @@ use Prim.Native.Nat.{ℕ, zero, suc, ◌≤◌, ◌<◌}
 use native.Mathlib.Omega.{arith}
 use lib.ListN.{length, get_or, drop, get_or-append}
 use Rattle.refusal.specs.declared.Refusal.{Refusal}
-use Rattle.refusal.specs.declared.Refusal.TheVariants.{None}
 use Rattle.refusal.proofs.Order.{beside_none}
 use Rattle.table.specs.declared.Row.{Row}
 use Rattle.table.specs.declared.Table.{Table}
@@ -74,7 +74,7 @@ module _ (rs : List Row) (ok : Usable rs) where
       course_served rs ok (length log) (rec_after rs (fresh_of rs) reps) (logged log) (reported reps) (run_course rs ok.few (fresh_of rs) reps)
 
   -- of the lent log that the run was written to
-  lent_served : (reps old : List ℕ) (f : Refusal) (n : ℕ) (next : Record) (new : List ℕ)
+  lent_served : (reps old : List ℕ) (f : Option Refusal) (n : ℕ) (next : Record) (new : List ℕ)
       → Left (run_of rs (fresh_of rs) reps) old f n next new → AllServed rs n (logged new) (reported reps)
   lent_served reps old f n next new g =
       let log : List ℕ = (run_of rs (fresh_of rs) reps).log in

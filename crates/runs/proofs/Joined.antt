@@ -2,6 +2,9 @@
 -- is the run of the first and then that of the second from the record which the first gives, and their lost units add up. Where a law asks that the record has sixteen entries, that
 -- is what its type says.
 -- Assumes nothing.
+use Rattle.std.proofs.lemmas.Option.{none-some}
+use Rattle.std.specs.Result.{result_err}
+use Rattle.std.specs.Prelude.{None, Err, Ok, Some}
 use mathlib.Core.Path.{◌≡◌, refl, sym, ap, ap₂, ◌∙◌}
 use mathlib.Core.Logic.{◌≢◌, ⊎_elim}
 use mathlib.Core.Bool.{true, false}
@@ -9,21 +12,18 @@ use mathlib.Core.List.{List, ◌++◌}
 use Prim.Native.Nat.{ℕ, ◌+◌, ◌≤◌}
 use lib.ListN.{length, take, length-append}
 use Rattle.refusal.specs.declared.Refusal.{Refusal}
-use Rattle.refusal.specs.declared.Refusal.TheVariants.{None}
-use Rattle.refusal.specs.Order.{accepted, or_else, beside}
-use Rattle.refusal.proofs.Order.{passes, none_later, beside_none}
+use Rattle.refusal.specs.Order.{accepted, or_else}
+use Rattle.refusal.proofs.Order.{passes, none_later, answer_err, answer_ok, answer_refusal, err_some, ok_none, ok_figure}
 use Rattle.table.specs.declared.Table.{Table}
 use Rattle.table.specs.Rows.{used, cycle_of}
 use Rattle.rule.proofs.Tests.{split}
 use Rattle.slots.specs.declared.Record.{Record}
 use Rattle.slots.specs.declared.Ran.{Ran}
-use Rattle.slots.specs.declared.Lost.{Lost}
 use Rattle.slots.specs.Sound.{record_refusal}
 use Rattle.slots.specs.Reports.{Outcome, run_of}
 use Rattle.slots.specs.History.{logged, reported}
 use Rattle.slots.specs.LostUnits.{lost_units, lost_refusal, lost_from}
 use Rattle.slots.proofs.SoundRecord.{Usable, table_usable, sound_at, none_table, none_sound}
-use Rattle.slots.proofs.ExactlyWhen.{not_none}
 use Rattle.slots.proofs.HandedBack.{ByReport}
 use Rattle.slots.proofs.JoinedRuns.{after, join_run, join_stopped}
 use Rattle.slots.proofs.JoinedLost.{joined_units}
@@ -170,9 +170,9 @@ lost_answers c {t} {q} a b d =
     c.meets ∙ ap (λ (u : Table). lost_from u (loss_from c) (loss_reports c)) a ∙ ap (λ (p : Record). lost_from t p (loss_reports c)) b ∙ ap (lost_from t q) d
 
 module _ (t : Table) (q : Record) (reps : List ℕ) where
-  is_refusal : (lost_from t q reps).refusal ≡ lost_refusal t q reps
+  is_refusal : result_err (lost_from t q reps) ≡ lost_refusal t q reps
   unfolding lost_from
-  is_refusal = refl
+  is_refusal = answer_refusal (lost_refusal t q reps) _
 
   lost_none : record_refusal t q ≡ None → (run_of (used t) q reps).refusal ≡ lost_refusal t q reps
   unfolding lost_refusal
@@ -182,14 +182,21 @@ module _ (t : Table) (q : Record) (reps : List ℕ) where
   unfolding lost_refusal
   none_run z = none_later _ _ z
 
-  units_none : lost_refusal t q reps ≡ None → (lost_from t q reps).units ≡ lost_units (used t) q (logged (run_of (used t) q reps).log) (reported reps) (length reps)
-  unfolding lost_from
-  units_none z = sym (beside_none (lost_refusal t q reps) (lost_units (used t) q (logged (run_of (used t) q reps).log) (reported reps) (length reps)) z)
+  abbrev all_lost : ℕ
+  all_lost = lost_units (used t) q (logged (run_of (used t) q reps).log) (reported reps) (length reps)
 
-  -- beside a refusal the sum is 0
-  lost_refused : accepted (lost_refusal t q reps) ≡ false → lost_from t q reps ≡ record { refusal = lost_refusal t q reps; units = 0 }
-  unfolding lost_from beside
-  lost_refused h = rw h refl
+  units_none : lost_refusal t q reps ≡ None → lost_from t q reps ≡ Ok all_lost
+  unfolding lost_from
+  units_none z = sym (answer_ok (lost_refusal t q reps) all_lost z)
+
+  units_are : (n : ℕ) → lost_from t q reps ≡ Ok n → (lost_refusal t q reps ≡ None) × (all_lost ≡ n)
+  unfolding lost_from
+  units_are n e = (ok_none (lost_refusal t q reps) all_lost n e, ok_figure (lost_refusal t q reps) all_lost n e)
+
+  -- where there is a refusal it is all that is answered
+  lost_refused : (f : Refusal) → lost_refusal t q reps ≡ Some f → lost_from t q reps ≡ Err f
+  unfolding lost_from
+  lost_refused f e = sym (answer_err (lost_refusal t q reps) all_lost f e)
 
   stops_more : (ys : List ℕ) → lost_refusal t q reps ≢ None → lost_refusal t q (reps ++ ys) ≡ lost_refusal t q reps
   unfolding lost_refusal or_else
@@ -246,37 +253,35 @@ module _ (first second both : LostCall) (ran : RunCall) (n : LostNext first seco
       ∙ lost_none t p ys (next_admitted t q sixteen admitted xs)
 
   -- the joined lists are refused as the second is
-  pub joined_lost_refusal : both.answer.refusal ≡ second.answer.refusal
+  pub joined_lost_refusal : result_err both.answer ≡ result_err second.answer
   joined_lost_refusal =
-      ap (λ (l : Lost). l.refusal) both_is
+      ap result_err both_is
       ∙ is_refusal t q (xs ++ ys)
       ∙ refusals
       ∙ sym (is_refusal t p ys)
-      ∙ sym (ap (λ (l : Lost). l.refusal) second_is)
+      ∙ sym (ap result_err second_is)
 
-  -- and where none is refused their lost units add up
-  pub joined_lost : both.answer.refusal ≡ None → both.answer.units ≡ first.answer.units + second.answer.units
-  joined_lost z =
-      let none : lost_refusal t q (xs ++ ys) ≡ None = sym (is_refusal t q (xs ++ ys)) ∙ sym (ap (λ (l : Lost). l.refusal) both_is) ∙ z in
-      let ok : Usable (used t) = table_usable t (none_table t q admitted) in
-      ap (λ (l : Lost). l.units) both_is
-      ∙ units_none t q (xs ++ ys) none
-      ∙ joined_units (used t) ok q (sound_at (used t) q sixteen (none_sound t q admitted)) xs ys (none_run t q (xs ++ ys) none)
-      ∙ ap₂ ◌+◌
-      (sym (ap (λ (l : Lost). l.units) first_is ∙ units_none t q xs (sym (lost_none t q xs admitted) ∙ first_whole)))
-      (sym (ap (λ (l : Lost). l.units) second_is ∙ units_none t p ys (sym refusals ∙ none)))
+  -- and where they are not, neither is the second list, nor the first, and their lost units add up
+  pub joined_lost : (n : ℕ) → both.answer ≡ Ok n → (a : ℕ) × ((b : ℕ) × (first.answer ≡ Ok a) × (second.answer ≡ Ok b) × (n ≡ a + b))
+  joined_lost n z =
+      let told = units_are t q (xs ++ ys) n (sym both_is ∙ z) in
+      let ok : Usable (used t) = table_usable t (none_table t q admitted) in (
+        all_lost t q xs,
+        (
+          all_lost t p ys,
+          first_is ∙ units_none t q xs (sym (lost_none t q xs admitted) ∙ first_whole),
+          second_is ∙ units_none t p ys (sym refusals ∙ told.0),
+          sym told.1 ∙ joined_units (used t) ok q (sound_at (used t) q sixteen (none_sound t q admitted)) xs ys (none_run t q (xs ++ ys) told.0),
+        ),
+      )
 
 -- where the first list is refused so are the joined ones, and by the same refusal
-pub joined_lost_stopped : (first both : LostCall) (ys : List ℕ) → LostBoth first both ys → first.answer.refusal ≢ None → both.answer ≡ first.answer
-joined_lost_stopped first both ys x h =
+pub joined_lost_stopped : (first both : LostCall) (ys : List ℕ) → LostBoth first both ys → (f : Refusal) → first.answer ≡ Err f → both.answer ≡ Err f
+unfolding lost_from
+joined_lost_stopped first both ys x f h =
     let t : Table = loss_table first in
     let q : Record = loss_from first in
     let xs : List ℕ = loss_reports first in
-    let told : lost_refusal t q xs ≢ None = λ z. h (ap (λ (l : Lost). l.refusal) first.meets ∙ is_refusal t q xs ∙ z) in
-    let same : lost_refusal t q (xs ++ ys) ≡ lost_refusal t q xs = stops_more t q xs ys told in
-    let refused : accepted (lost_refusal t q xs) ≡ false = not_none (lost_refusal t q xs) told in
-    lost_answers both x.table x.from x.reports
-    ∙ lost_refused t q (xs ++ ys) (ap accepted same ∙ refused)
-    ∙ ap (λ (f : Refusal). record { refusal = f; units = 0 }) same
-    ∙ sym (lost_refused t q xs refused)
-    ∙ sym first.meets
+    let told : lost_refusal t q xs ≡ Some f = err_some (lost_refusal t q xs) _ f (sym first.meets ∙ h) in
+    let same : lost_refusal t q (xs ++ ys) ≡ lost_refusal t q xs = stops_more t q xs ys (λ z. none-some f (sym z ∙ told)) in
+    lost_answers both x.table x.from x.reports ∙ lost_refused t q (xs ++ ys) f (same ∙ told)

@@ -1,6 +1,7 @@
 -- Checking the table and the record once, at the start of a run, is enough: 'A list of reports is run slot by slot', and at each of its slots the public one-slot answer, which
 -- checks both again, is what the run does. That the record has sixteen entries is what its type says.
 -- Assumes nothing.
+use Rattle.std.specs.Prelude.{Option, None}
 use mathlib.Core.Path.{◌≡◌, refl, sym, ap, ap₂, ◌∙◌}
 use mathlib.Core.Logic.{⊎_elim}
 use mathlib.Core.List.{List}
@@ -8,7 +9,6 @@ use Prim.Native.Nat.{ℕ, zero, suc, ◌≤◌, ◌<◌}
 use native.Mathlib.Omega.{arith}
 use lib.ListN.{length, get_or}
 use Rattle.refusal.specs.declared.Refusal.{Refusal}
-use Rattle.refusal.specs.declared.Refusal.TheVariants.{None}
 use Rattle.refusal.specs.Order.{beside}
 use Rattle.refusal.proofs.Order.{passes}
 use Rattle.table.specs.declared.Row.{Row}
@@ -55,12 +55,12 @@ module _ (t : Table) (q : Record) (sixteen : length q.jobs ≡ 16) (z : record_r
   next_admitted = ap (record_refusal t) (run_next rs q reps) ∙ after_admitted (length log)
 
   -- so only a slot's report can be refused
-  by_report_lem : (n : ℕ) (f : Refusal) → report_refusal (what rs (rec_after rs q reps n)) (reported reps n) ≡ f
+  by_report_lem : (n : ℕ) (f : Option Refusal) → report_refusal (what rs (rec_after rs q reps n)) (reported reps n) ≡ f
       → stepped_by t (rec_after rs q reps n) (reported reps n) ≡ slot_under f rs (rec_after rs q reps n) (reported reps n)
   unfolding stepped_by
   by_report_lem n f e =
       let p : Record = rec_after rs q reps n in
-      ap (λ (g : Refusal). slot_under g rs p (reported reps n)) (sym (passes (record_refusal t p) (report_refusal (what rs p) (reported reps n)) (after_admitted n)) ∙ e)
+      ap (λ (g : Option Refusal). slot_under g rs p (reported reps n)) (sym (passes (record_refusal t p) (report_refusal (what rs p) (reported reps n)) (after_admitted n)) ∙ e)
 
   -- each slot of the run: its record, and its byte of the log
   pub each_slot_steps : (n : ℕ) → n < length (run_of (used t) q reps).log
@@ -77,7 +77,7 @@ module _ (t : Table) (q : Record) (sixteen : length q.jobs ≡ 16) (z : record_r
       → stepped_by t (rec_after (used t) q reps (length (run_of (used t) q reps).log)) (reported reps (length (run_of (used t) q reps).log))
       ≡ record { refusal = (run_of (used t) q reps).refusal; next = (run_of (used t) q reps).next; ran = 0 }
   stop_steps l =
-      let f : Refusal = (run_of rs q reps).refusal in
+      let f : Option Refusal = (run_of rs q reps).refusal in
       let p : Record = rec_after rs q reps (length log) in
       ⊎_elim (λ e. absurd (omega (arith, e.1)))
       (λ e.

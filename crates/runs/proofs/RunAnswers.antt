@@ -1,5 +1,6 @@
 -- What a call of `Record::run` answers: the run of its reports, where none of 1 to 9 is given. An acceptance says that none is, and so does 10 or 11.
 -- Assumes nothing.
+use Rattle.std.specs.Prelude.{Option, Some, None}
 use mathlib.Core.Path.{◌≡◌, refl, sym, ap, ◌∙◌, subst}
 use mathlib.Core.Logic.{◌≢◌, ◌⊎◌, inl, inr, ⊎_elim}
 use mathlib.Core.List.{List, ◌++◌}
@@ -8,8 +9,8 @@ use native.Mathlib.Omega.{arith}
 use lib.ListN.{length, take, drop}
 use lib.Seq.{take_at}
 use Rattle.refusal.specs.declared.Refusal.{Refusal}
-use Rattle.refusal.specs.declared.Refusal.TheVariants.{None, Room}
-use Rattle.refusal.specs.Numbers.{number_of}
+use Rattle.refusal.specs.declared.Refusal.TheVariants.{Room}
+use Rattle.refusal.specs.Numbers.{number_told}
 use Rattle.table.specs.declared.Table.{Table}
 use Rattle.table.specs.Rows.{used, cycle_of}
 use Rattle.slots.specs.declared.Record.{Record}
@@ -25,19 +26,19 @@ use Rattle.runs.proofs.Calls.{RunCall, run_from, run_table, run_reports, run_out
 use Rattle.runs.proofs.Demand1.{run_gives}
 
 -- ---- 10 or 11 is no acceptance, and no refusal at a record
-number_report : (f : Refusal) → ByReport f → 9 < number_of f
-number_report f by = ⊎_elim (λ r. omega (arith, ap number_of r)) (λ r. omega (arith, ap number_of r)) by
+number_report : (f : Option Refusal) → ByReport f → 9 < number_told f
+number_report f by = ⊎_elim (λ r. omega (arith, ap number_told r)) (λ r. omega (arith, ap number_told r)) by
 
-pub report_told : (f : Refusal) → ByReport f → f ≢ None
-report_told f by z = omega (arith, number_report f by, ap number_of z)
+pub report_told : (f : Option Refusal) → ByReport f → f ≢ None
+report_told f by z = omega (arith, number_report f by, ap number_told z)
 
-not_record : (t : Table) (q : Record) (f : Refusal) → ByReport f → RecordGives t q f → ⊥
+not_record : (t : Table) (q : Record) (f : Option Refusal) → ByReport f → RecordGives t q f → ⊥
 unfolding RecordGives
 not_record t q f (inl r) g = subst (RecordGives t q) r g
 not_record t q f (inr r) g = subst (RecordGives t q) r g
 
 -- what a run leaves of the outcome o: the refusal that stopped it, the slots accepted, the record after them, and the lent log, which held `old`
-pub record Left (o : Outcome) (old : List ℕ) (refusal : Refusal) (slots : ℕ) (next : Record) (log : List ℕ) : Type 0 where
+pub record Left (o : Outcome) (old : List ℕ) (refusal : Option Refusal) (slots : ℕ) (next : Record) (log : List ℕ) : Type 0 where
   pub stop : refusal ≡ o.refusal
   pub count : slots ≡ length o.log
   pub after : next ≡ o.next
@@ -99,10 +100,10 @@ module _ (c : RunCall) where
   -- a log or a buffer that is too short takes no slot
   pub no_room : record_refusal (run_table c) (run_from c) ≡ None → (length (old_log c) < length (run_reports c)) ⊎ (length (old_buffer c) < cycle_of (used (run_table c)))
       → c.answer.slots ≡ 0
-  no_room z l = ((run_gives c Room 0).1 (at_room ((record_gives t q None).0 z) l refl refl)).1
+  no_room z l = ((run_gives c (Some Room) 0).1 (at_room ((record_gives t q None).0 z) l refl refl)).1
 
   -- neither a refusal at the record nor one for room
-  enters : (RecordGives t q c.answer.refusal → (c.answer.refusal ≡ None → ⊥) → c.answer.slots ≡ 0 → ⊥) → (c.answer.refusal ≡ Room → c.answer.slots ≡ 0 → ⊥) → Enters
+  enters : (RecordGives t q c.answer.refusal → (c.answer.refusal ≡ None → ⊥) → c.answer.slots ≡ 0 → ⊥) → (c.answer.refusal ≡ (Some Room) → c.answer.slots ≡ 0 → ⊥) → Enters
   enters not_there no_room = go ((run_gives c c.answer.refusal c.answer.slots).0 (refl, refl))
     where
       go : RunGivesAt t q reps old kept c.answer.refusal c.answer.slots → Enters
@@ -112,10 +113,10 @@ module _ (c : RunCall) where
 
   -- an accepted list, one that a report stops, and one with a slot accepted
   pub accepted_enters : c.answer.refusal ≡ None → Enters
-  accepted_enters z = enters (λ g h e. h z) (λ d e. omega (arith, ap number_of z, ap number_of d))
+  accepted_enters z = enters (λ g h e. h z) (λ d e. omega (arith, ap number_told z, ap number_told d))
 
   pub stopped_enters : ByReport c.answer.refusal → Enters
-  stopped_enters by = enters (λ g h e. not_record t q c.answer.refusal by g) (λ d e. omega (arith, number_report c.answer.refusal by, ap number_of d))
+  stopped_enters by = enters (λ g h e. not_record t q c.answer.refusal by g) (λ d e. omega (arith, number_report c.answer.refusal by, ap number_told d))
 
   pub slot_enters : (n : ℕ) → n < c.answer.slots → Enters
   slot_enters n l = enters (λ g h e. omega arith) (λ d e. omega arith)

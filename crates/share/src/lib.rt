@@ -7,6 +7,7 @@ ghost use Rattle.std.specs.Float.Ieee.{to_bits};
 ghost use Rattle.share.specs.Share.{share_of, share_bits};
 
 // A row's share: primaries done over the jobs that count, with both counts. Where no job counts it carries 16 beside a share of +0.0.
+// No `Option` of the share, since that mark and that 0 are promised (theorems `share_marked`, `share_zero`).
 #[derive(Clone, Copy)]
 pub struct Share {
     pub mark: u8,

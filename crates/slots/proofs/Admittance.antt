@@ -1,28 +1,27 @@
 -- Refusals 1 to 7 and 9 before a slot, and the holder of the clock's slot, as the code meets them.
 -- Assumes nothing.
+use Rattle.std.specs.Prelude.{Option, Some, None, Ok, Err}
+use Rattle.std.proofs.lemmas.Option.{none-some}
 use mathlib.Core.Path.{◌≡◌, refl, sym, ap, ◌∙◌}
 use mathlib.Core.Bool.{Bool, true, false, not, ◌&&◌}
 use mathlib.Core.List.{List}
-use Prim.Native.Nat.{ℕ, ◌≤◌, ◌<◌}
+use Prim.Native.Nat.{ℕ, ◌<◌}
 use native.Mathlib.Omega.{arith}
 use borrow.Author.Tests.{ltb-true, lt-ltb}
 use lib.Dec.{ltb, eqb}
 use Rattle.refusal.specs.declared.Refusal.{Refusal}
-use Rattle.refusal.specs.declared.Refusal.TheVariants.{None, Record as NotSound}
-use Rattle.refusal.specs.Order.{given, or_else, beside}
-use Rattle.refusal.proofs.Order.{Told, keeps, passes, beside_refused, beside_none}
+use Rattle.refusal.specs.declared.Refusal.TheVariants.{Record as NotSound}
+use Rattle.refusal.specs.Order.{given, or_else}
+use Rattle.refusal.proofs.Order.{passes, answer_ok, answer_err, ok_none, ok_figure, err_some}
 use Rattle.table.specs.declared.Table.{Table}
-use Rattle.table.specs.declared.Checked.{Checked}
 use Rattle.table.specs.Rows.{used, cycle_of}
 use Rattle.table.specs.Check.{rows_refusal}
 use Rattle.rule.proofs.Tests.{and_left}
 use Rattle.reserve.specs.declared.Standing.{Standing}
 use Rattle.reserve.specs.Check.{table_refusal, table_check}
 use Rattle.reserve.specs.Standing.{from_clock}
-use Rattle.reserve.specs.Turns.{Ready}
-use Rattle.reserve.proofs.Verdict.{checked_refusal, table_ready}
-use Rattle.reserve.proofs.Ready.{few}
-use Rattle.reserve.proofs.FromClock.{from_short, from_holder}
+use Rattle.reserve.proofs.Verdict.{table_rows, refused_table, checked_none}
+use Rattle.reserve.proofs.FromClock.{from_cycle, from_short, from_holder}
 use Rattle.slots.specs.declared.Record.{Record}
 use Rattle.slots.specs.declared.slot.Admitted.{Admitted}
 use Rattle.slots.specs.Sound.{jobs_fit, lefts, claims_of, sound, record_refusal}
@@ -31,74 +30,75 @@ use Rattle.slots.specs.Turns.{Steady, admitted_of}
 use Rattle.slots.proofs.SoundRecord.{none_table, none_sound}
 
 -- the holder of the clock's slot, by the sweep from the clock
-pub held_now : (t : Table) (q : Record) (left : List ℕ) (s : Standing) → rows_refusal t ≡ None → q.clock < cycle_of (used t)
-    → left ≡ lefts q.jobs → s ≡ from_clock t q.clock left → s.holder ≡ holder_at (used t) q q.clock
+pub held_now : (t : Table) (q : Record) (left : List ℕ) (s : Standing) → q.clock < cycle_of (used t)
+    → left ≡ lefts q.jobs → from_clock t q.clock left ≡ Ok s → s.holder ≡ holder_at (used t) q q.clock
 unfolding holder_at claims_of
-held_now t q left s z l e h = from_holder t q.clock left s h z ∙ rw (lt-ltb q.clock (cycle_of (used t)) l, e) refl
+held_now t q left s l e h = from_holder t q.clock left s h ∙ rw (lt-ltb q.clock (cycle_of (used t)) l, e) refl
 
--- ---- the ways out, after the check of the table
-module _ (t : Table) (q : Record) (checked : Checked) (e : checked ≡ table_check t) where
-  answered : (f : Refusal) (c h : ℕ) → f ≡ record_refusal t q → c ≡ beside f (cycle_of (used t)) → h ≡ beside f (holder_at (used t) q q.clock)
-      → ◌≡◌ {A = Admitted} (record { refusal = f; cycle = c; holder = h }) (admitted_of t q)
-  unfolding admitted_of
-  answered f c h a b d = rw (b, d, a) refl
+module _ (t : Table) (q : Record) where
+  abbrev admitted : Admitted
+  admitted = record { cycle = cycle_of (used t); holder = holder_at (used t) q q.clock }
 
-  pub admit_refused : Told checked.refusal → ◌≡◌ {A = Admitted} (record { refusal = checked.refusal; cycle = 0; holder = 0 }) (admitted_of t q)
-  unfolding record_refusal
-  admit_refused p =
-      let f = checked.refusal in
-      let later = given (not (sound (used t) q)) NotSound in
-      answered f 0 0 (keeps f later p ∙ ap (λ (g : Refusal). or_else g later) (checked_refusal t checked e))
-      (beside_refused f (cycle_of (used t)) p) (beside_refused f (holder_at (used t) q q.clock) p)
+  -- ---- the ways out, after the check of the table
+  pub admit_refused : (f : Refusal) → table_check t ≡ Err f → Err f ≡ admitted_of t q
+  unfolding admitted_of record_refusal or_else
+  admit_refused f e =
+      answer_err (record_refusal t q) admitted f
+      (ap (λ (g : Option Refusal). or_else g (given (not (sound (used t) q)) NotSound)) (refused_table t f e))
 
-  module _ (d : checked.refusal ≡ None) where
-    ready : Ready t checked.cycle
-    ready = table_ready t checked e d
+  module _ (cycle : ℕ) (e : table_check t ≡ Ok cycle) where
+    accepted_table : table_refusal t ≡ None
+    accepted_table = checked_none t cycle e
 
-    pub admit_few : t.n ≤ 16
-    admit_few = few ready
-
-    last : given (not (sound (used t) q)) NotSound ≡ record_refusal t q
+    last : record_refusal t q ≡ given (not (sound (used t) q)) NotSound
     unfolding record_refusal
-    last = passes (table_refusal t) (given (not (sound (used t) q)) NotSound) (sym (checked_refusal t checked e) ∙ d)
+    last = sym (passes (table_refusal t) (given (not (sound (used t) q)) NotSound) accepted_table)
 
-    module _ (fit : Bool) (fits : fit ≡ jobs_fit (used t) q.jobs) (left : List ℕ) (units : left ≡ lefts q.jobs)
-        (s : Standing) (stands : s ≡ from_clock t q.clock left) (b : Bool) (holds : b ≡ (ltb q.clock checked.cycle && (fit && eqb s.short 0))) where
+    -- the sweep from the clock refuses no table that is accepted
+    pub admit_stands : (left : List ℕ) (f : Refusal) → from_clock t q.clock left ≡ Err f → Err f ≡ admitted_of t q
+    unfolding from_clock
+    admit_stands left f h = absurd (none-some f (sym (table_rows t accepted_table) ∙ err_some (rows_refusal t) _ f h))
+
+    module _ (left : List ℕ) (units : left ≡ lefts q.jobs) (s : Standing) (stands : from_clock t q.clock left ≡ Ok s)
+        (fit : Bool) (fits : fit ≡ jobs_fit (used t) q.jobs) (b : Bool) (holds : b ≡ (ltb q.clock s.cycle && (fit && eqb s.short 0))) where
       tells : b ≡ sound (used t) q
       unfolding sound claims_of
       tells =
-          let short = from_short t q.clock left s stands ready.rows in
-          holds ∙ rw (ready.is_cycle, fits, short, units) refl
+          let short = from_short t q.clock left s stands in
+          let same = from_cycle t q.clock left s stands in
+          holds ∙ rw (same, fits, short, units) refl
 
-      pub admit_sound : b ≡ true → ◌≡◌ {A = Admitted} (record { refusal = None; cycle = checked.cycle; holder = s.holder }) (admitted_of t q)
+      pub admit_sound : b ≡ true → Ok (record { cycle = s.cycle; holder = s.holder }) ≡ admitted_of t q
+      unfolding admitted_of
       admit_sound h =
-          let before : q.clock < checked.cycle = ltb-true q.clock checked.cycle (and_left (ltb q.clock checked.cycle) (fit && eqb s.short 0) (sym holds ∙ h)) in
-          let l : q.clock < cycle_of (used t) = omega (arith, ready.is_cycle) in
-          answered None checked.cycle s.holder (ap (λ (x : Bool). given (not x) NotSound) (sym h ∙ tells) ∙ last) (ready.is_cycle ∙ beside_none None (cycle_of (used t)) refl)
-          (held_now t q left s ready.rows l units stands ∙ beside_none None (holder_at (used t) q q.clock) refl)
+          let same = from_cycle t q.clock left s stands in
+          let before : q.clock < s.cycle = ltb-true q.clock s.cycle (and_left (ltb q.clock s.cycle) (fit && eqb s.short 0) (sym holds ∙ h)) in
+          let l : q.clock < cycle_of (used t) = omega (arith, same) in
+          rw (same, held_now t q left s l units stands)
+          (answer_ok (record_refusal t q) admitted (last ∙ ap (λ (x : Bool). given (not x) NotSound) (sym tells ∙ h)))
 
-      pub admit_not : b ≡ false → ◌≡◌ {A = Admitted} (record { refusal = NotSound; cycle = 0; holder = 0 }) (admitted_of t q)
-      unfolding beside
-      admit_not h = answered NotSound 0 0 (ap (λ (x : Bool). given (not x) NotSound) (sym h ∙ tells) ∙ last) refl refl
+      pub admit_not : b ≡ false → Err NotSound ≡ admitted_of t q
+      unfolding admitted_of
+      admit_not h = answer_err (record_refusal t q) admitted NotSound (last ∙ ap (λ (x : Bool). given (not x) NotSound) (sym tells ∙ h))
 
--- ---- a record that is admitted
-module _ (t : Table) (q : Record) (a : Admitted) (e : a ≡ admitted_of t q) where
-  pub admitted_refusal : a.refusal ≡ record_refusal t q
+  -- ---- a record that is refused
+  pub admitted_refusal : (f : Refusal) → admitted_of t q ≡ Err f → record_refusal t q ≡ Some f
   unfolding admitted_of
-  admitted_refusal = ap (λ (x : Admitted). x.refusal) e
+  admitted_refusal f = err_some (record_refusal t q) admitted f
 
-  module _ (d : a.refusal ≡ None) where
+  -- ---- a record that is admitted
+  module _ (a : Admitted) (e : admitted_of t q ≡ Ok a) where
     pub record_none : record_refusal t q ≡ None
-    record_none = sym admitted_refusal ∙ d
+    unfolding admitted_of
+    record_none = ok_none (record_refusal t q) admitted a e
+
+    is_admitted : a ≡ admitted
+    unfolding admitted_of
+    is_admitted = sym (ok_figure (record_refusal t q) admitted a e)
 
     pub admitted_steady : Steady t a.cycle q
-    unfolding admitted_of
-    admitted_steady = record {
-      table = none_table t q record_none;
-      is_cycle = ap (λ (x : Admitted). x.cycle) e ∙ sym (beside_none (record_refusal t q) (cycle_of (used t)) record_none);
-      sound = none_sound t q record_none;
-    }
+    admitted_steady =
+        record { table = none_table t q record_none; is_cycle = ap (λ (x : Admitted). x.cycle) is_admitted; sound = none_sound t q record_none }
 
     pub admitted_held : a.holder ≡ holder_at (used t) q q.clock
-    unfolding admitted_of
-    admitted_held = ap (λ (x : Admitted). x.holder) e ∙ sym (beside_none (record_refusal t q) (holder_at (used t) q q.clock) record_none)
+    admitted_held = ap (λ (x : Admitted). x.holder) is_admitted

@@ -1,5 +1,6 @@
 -- The answers of the public functions, from what the code has found on each way out.
 -- Assumes nothing.
+use Rattle.std.specs.Prelude.{Option, Some, None, Ok, Err}
 use mathlib.Core.Path.{◌≡◌, refl, sym, ap, ◌∙◌, subst}
 use mathlib.Core.Logic.{◌⊎◌, inl, inr}
 use mathlib.Core.Bool.{Bool, true, false, ◌||◌}
@@ -10,27 +11,23 @@ use borrow.Author.Tests.{ltb-false, lt-ltb, le-ltb}
 use lib.Dec.{ltb}
 use lib.ListN.{length, replicate}
 use Rattle.refusal.specs.declared.Refusal.{Refusal}
-use Rattle.refusal.specs.declared.Refusal.TheVariants.{None, Room}
+use Rattle.refusal.specs.declared.Refusal.TheVariants.{Room}
 use Rattle.refusal.specs.Order.{accepted, given, or_else, beside}
 use Rattle.refusal.specs.Lent.{overlaid}
 use Rattle.refusal.proofs.Lent.{sets_laid}
-use Rattle.refusal.proofs.Order.{Told, refused, keeps, passes, beside_refused, beside_none}
+use Rattle.refusal.proofs.Order.{passes, answer_ok, answer_err}
 use Rattle.table.specs.declared.Table.{Table}
-use Rattle.table.specs.declared.Checked.{Checked}
 use Rattle.table.specs.Rows.{used, cycle_of}
 use Rattle.table.proofs.Check.{used_count}
 use Rattle.rule.proofs.Tests.{or_left, or_right, or_none, or_first, or_second}
-use Rattle.reserve.specs.Check.{table_refusal, table_check}
-use Rattle.reserve.proofs.Verdict.{checked_refusal, table_ready}
-use Rattle.reserve.proofs.Ready.{few}
+use Rattle.reserve.specs.Check.{table_check}
+use Rattle.reserve.proofs.Verdict.{refused_table, checked_none}
 use Rattle.slots.specs.declared.Job.{Job}
 use Rattle.slots.specs.declared.Record.{Record}
 use Rattle.slots.specs.declared.Started.{Started}
-use Rattle.slots.specs.declared.Asked.{Asked}
-use Rattle.slots.specs.declared.Awaiting.{Awaiting}
 use Rattle.slots.specs.declared.Stepped.{Stepped}
 use Rattle.slots.specs.declared.Ran.{Ran}
-use Rattle.slots.specs.declared.awaited.Members.{Members}
+use Rattle.slots.specs.declared.Awaiting.{Awaiting}
 use Rattle.slots.specs.declared.slot.Admitted.{Admitted}
 use Rattle.slots.specs.Records.{no_job, fresh_jobs, fresh_of, fresh_record, started_for}
 use Rattle.slots.specs.Sound.{record_refusal}
@@ -47,19 +44,14 @@ use Rattle.slots.proofs.RunFacts.{run_short}
 use Rattle.slots.proofs.KeptBuffer.{kept_is}
 
 -- ---- the fresh record
-module _ (t : Table) (checked : Checked) (e : checked ≡ table_check t) where
-  pub fresh_few : checked.refusal ≡ None → t.n ≤ 16
-  fresh_few d = few (table_ready t checked e d)
-
-  pub fresh_none : checked.refusal ≡ None → (js : List Job) → js ≡ fresh_jobs (used t) → (r : Started) → r ≡ started_with None js → r ≡ started_for t
+module _ (t : Table) where
+  pub fresh_none : (cycle : ℕ) → table_check t ≡ Ok cycle → (js : List Job) → js ≡ fresh_jobs (used t) → (r : Started) → r ≡ started_with None js → r ≡ started_for t
   unfolding started_for fresh_record fresh_of
-  fresh_none d js h r g =
-      let z : table_refusal t ≡ None = sym (checked_refusal t checked e) ∙ d in
-      g ∙ rw (z, h) refl
+  fresh_none cycle e js h r g = g ∙ rw (checked_none t cycle e, h) refl
 
-  pub fresh_refused : Told checked.refusal → (js : List Job) → js ≡ replicate 16 no_job → (r : Started) → r ≡ started_with checked.refusal js → r ≡ started_for t
+  pub fresh_refused : (f : Refusal) → table_check t ≡ Err f → (js : List Job) → js ≡ replicate 16 no_job → (r : Started) → r ≡ started_with (Some f) js → r ≡ started_for t
   unfolding started_for fresh_record fresh_of fresh_jobs
-  fresh_refused p js h r g = g ∙ rw (← checked_refusal t checked e) (rw (refused checked.refusal p, h) refl)
+  fresh_refused f e js h r g = g ∙ rw (refused_table t f e, h) refl
 
 -- ---- what becomes of a list of reports, with a lent log that held `old` and a lent buffer that held `kept`
 -- one of the two is shorter than its use
@@ -74,15 +66,9 @@ pub has_room : (t : Table) (reps old kept : List ℕ) → length reps ≤ length
 has_room t reps old kept l u =
     or_none (ltb (length old) (length reps)) (ltb (length kept) (cycle_of (used t))) (le-ltb (length old) (length reps) l) (le-ltb (length kept) (cycle_of (used t)) u)
 
-pub no_log : (log reports buffer cycle : ℕ) → log < reports → true ≡ (ltb log reports || ltb buffer cycle)
-no_log log reports buffer cycle l = simp (lt-ltb log reports l)
-
-pub log_first : (log reports buffer cycle : ℕ) → reports ≤ log → ltb buffer cycle ≡ (ltb log reports || ltb buffer cycle)
-log_first log reports buffer cycle l = simp (le-ltb log reports l)
-
 module _ (t : Table) (q : Record) (reps old kept : List ℕ) where
   -- stopped before the first slot
-  pub outcome_stopped : (f : Refusal) → entry_refusal t q reps old kept ≡ f → accepted f ≡ false → outcome_of t q reps old kept ≡ stopped f q
+  pub outcome_stopped : (f : Option Refusal) → entry_refusal t q reps old kept ≡ f → accepted f ≡ false → outcome_of t q reps old kept ≡ stopped f q
   unfolding outcome_of
   outcome_stopped f h n = rw h (rw n refl)
 
@@ -92,7 +78,7 @@ module _ (t : Table) (q : Record) (reps old kept : List ℕ) where
     unfolding entry_refusal
     entry = sym (passes (record_refusal t q) (given (roomless t reps old kept) Room) z)
 
-    pub entry_room : roomless t reps old kept ≡ true → entry_refusal t q reps old kept ≡ Room
+    pub entry_room : roomless t reps old kept ≡ true → entry_refusal t q reps old kept ≡ (Some Room)
     entry_room l = entry ∙ rw l refl
 
     pub entry_none : roomless t reps old kept ≡ false → entry_refusal t q reps old kept ≡ None
@@ -110,12 +96,12 @@ record Gives (t : Table) (q : Record) (reps old kept : List ℕ) (r : Ran) (log 
   left : buffer ≡ buffer_after t q reps old kept
 
 -- a refusal writes nothing
-unwritten : (f : Refusal) (new old : List ℕ) → accepted f ≡ false → old ≡ overlaid f new old
+unwritten : (f : Option Refusal) (new old : List ℕ) → accepted f ≡ false → old ≡ overlaid f new old
 unfolding overlaid
 unwritten f new old n = rw n refl
 
 -- stopped before the first slot: nothing is written
-stopped_all : (t : Table) (q : Record) (reps old kept : List ℕ) (f : Refusal) → entry_refusal t q reps old kept ≡ f → accepted f ≡ false
+stopped_all : (t : Table) (q : Record) (reps old kept : List ℕ) (f : Option Refusal) → entry_refusal t q reps old kept ≡ f → accepted f ≡ false
     → Gives t q reps old kept (record { refusal = f; slots = 0; next = q }) old kept
 unfolding ran_by log_after buffer_after
 stopped_all t q reps old kept f h n =
@@ -127,68 +113,66 @@ stopped_all t q reps old kept f h n =
     }
 
 -- ---- the answers at a record
-module _ (t : Table) (q : Record) (a : Admitted) (e : a ≡ admitted_of t q) where
+module _ (t : Table) (q : Record) where
   -- a refusal before the slot
-  module _ (p : Told a.refusal) where
-    pub asked_refused : ◌≡◌ {A = Asked} (record { refusal = a.refusal; ran = 0 }) (asked_of t q)
+  module _ (f : Refusal) (e : admitted_of t q ≡ Err f) where
+    pub asked_refused : Err f ≡ asked_of t q
     unfolding asked_of
-    asked_refused = rw (← admitted_refusal t q a e) (rw (← beside_refused a.refusal (byte_of (what (used t) q)) p) refl)
+    asked_refused = answer_err (record_refusal t q) (byte_of (what (used t) q)) f (admitted_refusal t q f e)
 
-    pub awaiting_refused : ◌≡◌ {A = Awaiting} (record { refusal = a.refusal; set = 0; row = 0; count = 0 }) (awaiting_of t q)
-    unfolding awaiting_of beside
-    awaiting_refused = rw (← admitted_refusal t q a e) (rw (refused a.refusal p) refl)
+    pub awaiting_refused : Err f ≡ awaiting_of t q
+    unfolding awaiting_of
+    awaiting_refused = answer_err (record_refusal t q) _ f (admitted_refusal t q f e)
 
-    pub stepped_refused : (report : ℕ) → ◌≡◌ {A = Stepped} (record { refusal = a.refusal; next = q; ran = 0 }) (stepped_by t q report)
+    pub stepped_refused : (report : ℕ) → ◌≡◌ {A = Stepped} (record { refusal = Some f; next = q; ran = 0 }) (stepped_by t q report)
     unfolding stepped_by slot_under or_else beside
-    stepped_refused report = rw (← admitted_refusal t q a e) (rw (refused a.refusal p, refused a.refusal p) refl)
+    stepped_refused report = rw (admitted_refusal t q f e) refl
+
+    -- ---- a list of reports that is refused at the record
+    module _ (reps old kept : List ℕ) where
+      refused_all : Gives t q reps old kept (record { refusal = Some f; slots = 0; next = q }) old kept
+      unfolding entry_refusal or_else
+      refused_all =
+          stopped_all t q reps old kept (Some f)
+          (ap (λ (g : Option Refusal). or_else g (given (roomless t reps old kept) Room)) (admitted_refusal t q f e)) refl
+
+      pub ran_refused : ◌≡◌ {A = Ran} (record { refusal = Some f; slots = 0; next = q }) (ran_by t q reps old kept)
+      ran_refused = refused_all.answer
+
+      pub log_refused : old ≡ log_after t q reps old kept
+      log_refused = refused_all.bytes
+
+      pub buffer_refused : kept ≡ buffer_after t q reps old kept
+      buffer_refused = refused_all.left
 
   -- none
-  module _ (d : a.refusal ≡ None) where
+  module _ (a : Admitted) (e : admitted_of t q ≡ Ok a) where
     none : record_refusal t q ≡ None
-    none = record_none t q a e d
+    none = record_none t q a e
 
     steady : Steady t a.cycle q
-    steady = admitted_steady t q a e d
+    steady = admitted_steady t q a e
 
     pub answer_few : t.n ≤ 16
     answer_few = stands_few steady
 
     pub answer_holder : a.holder ≤ 16
-    answer_holder = stands_holder steady a.holder q.clock (admitted_held t q a e d)
+    answer_holder = stands_holder steady a.holder q.clock (admitted_held t q a e)
 
-    pub asked_none : length q.jobs ≡ 16 → length t.rows ≡ 16 → (m : Members) → m ≡ members_of q.jobs t.n
-        → (ran : ℕ) → ran ≡ byte_of (reserved a.holder (unreserved m.row)) → ◌≡◌ {A = Asked} (record { refusal = None; ran = ran }) (asked_of t q)
+    pub asked_none : length q.jobs ≡ 16 → length t.rows ≡ 16 → (m : Awaiting) → m ≡ members_of q.jobs t.n
+        → (ran : ℕ) → ran ≡ byte_of (reserved a.holder (unreserved m.row)) → Ok ran ≡ asked_of t q
     unfolding asked_of
     asked_none s f m g ran h =
-        rw none (ap (λ (b : ℕ). record { refusal = None; ran = b })
-        (byte_is steady s f a.holder (admitted_held t q a e d) m g ran h ∙ beside_none None (byte_of (what (used t) q)) refl))
+        ap Ok (byte_is steady s f a.holder (admitted_held t q a e) m g ran h) ∙ answer_ok (record_refusal t q) (byte_of (what (used t) q)) none
 
-    pub awaiting_none : length t.rows ≡ 16 → (m : Members) → m ≡ members_of q.jobs t.n
-        → ◌≡◌ {A = Awaiting} (record { refusal = None; set = m.set; row = m.row; count = m.count }) (awaiting_of t q)
-    unfolding awaiting_of beside waiting_set lowest_waiting waiting_count members_of
+    pub awaiting_none : length t.rows ≡ 16 → (m : Awaiting) → m ≡ members_of q.jobs t.n → Ok m ≡ awaiting_of t q
+    unfolding awaiting_of waiting_set lowest_waiting waiting_count members_of
     awaiting_none f m g = let n : length (used t) ≡ t.n = used_count t f answer_few in rw (none, n, g) refl
 
     pub stepped_none : (report : ℕ) (r : Stepped) → r ≡ slot_under (report_refusal (what (used t) q) report) (used t) q report → r ≡ stepped_by t q report
     unfolding stepped_by
     stepped_none report r h =
-        h ∙ ap (λ (f : Refusal). slot_under f (used t) q report) (passes (record_refusal t q) (report_refusal (what (used t) q) report) none)
-
-  -- ---- a list of reports that is refused at the record
-  module _ (reps old kept : List ℕ) (p : Told a.refusal) where
-    refused_all : Gives t q reps old kept (record { refusal = a.refusal; slots = 0; next = q }) old kept
-    unfolding entry_refusal
-    refused_all =
-        let later = given (roomless t reps old kept) Room in
-        stopped_all t q reps old kept a.refusal (sym (keeps a.refusal later p ∙ ap (λ (f : Refusal). or_else f later) (admitted_refusal t q a e))) (refused a.refusal p)
-
-    pub ran_refused : ◌≡◌ {A = Ran} (record { refusal = a.refusal; slots = 0; next = q }) (ran_by t q reps old kept)
-    ran_refused = refused_all.answer
-
-    pub log_refused : old ≡ log_after t q reps old kept
-    log_refused = refused_all.bytes
-
-    pub buffer_refused : kept ≡ buffer_after t q reps old kept
-    buffer_refused = refused_all.left
+        h ∙ ap (λ (f : Option Refusal). slot_under f (used t) q report) (passes (record_refusal t q) (report_refusal (what (used t) q) report) none)
 
 -- ---- a list of reports from a sound record, with a lent log that held `old` and a lent buffer that held `kept`
 module _ {t : Table} {cycle : ℕ} {q : Record} (st : Steady t cycle q) (reps old kept : List ℕ) (lacking : Bool)
@@ -200,10 +184,10 @@ module _ {t : Table} {cycle : ℕ} {q : Record} (st : Steady t cycle q) (reps ol
   is_roomless = asked ∙ ap (λ (c : ℕ). ltb (length old) (length reps) || ltb (length kept) c) st.is_cycle
 
   module _ (l : lacking ≡ true) where
-    room_all : Gives t q reps old kept (record { refusal = Room; slots = 0; next = q }) old kept
-    room_all = stopped_all t q reps old kept Room (entry_room t q reps old kept unrefused (sym is_roomless ∙ l)) refl
+    room_all : Gives t q reps old kept (record { refusal = Some Room; slots = 0; next = q }) old kept
+    room_all = stopped_all t q reps old kept (Some Room) (entry_room t q reps old kept unrefused (sym is_roomless ∙ l)) refl
 
-    pub ran_room : ◌≡◌ {A = Ran} (record { refusal = Room; slots = 0; next = q }) (ran_by t q reps old kept)
+    pub ran_room : ◌≡◌ {A = Ran} (record { refusal = Some Room; slots = 0; next = q }) (ran_by t q reps old kept)
     ran_room = room_all.answer
 
     pub log_room : old ≡ log_after t q reps old kept

@@ -2,6 +2,7 @@
 -- stands in ListsWhen. What specs/Exactly says of a refusal brings it about (the laws `-if`), and of every input it says something of some refusal (the laws `some-`): so each is
 -- given exactly when.
 -- Assumes nothing.
+use Rattle.std.specs.Prelude.{Option, Some, None}
 use mathlib.Core.Path.{◌≡◌, refl, sym, ap, ◌∙◌}
 use mathlib.Core.Logic.{◌⊎◌, inl, inr, ◌↔◌, ⊎_elim}
 use mathlib.Core.Bool.{Bool, true, false, not, ◌&&◌}
@@ -12,7 +13,7 @@ use borrow.Author.Tests.{eqb-true, eq-eqb, ltb-true, lt-ltb, leb-true, le-leb}
 use lib.Dec.{ltb, leb, eqb}
 use lib.ListN.{length}
 use Rattle.refusal.specs.declared.Refusal.{Refusal}
-use Rattle.refusal.specs.declared.Refusal.TheVariants.{None, Empty, Many, Zero, Long, Order, Cycle, Tight, Report, Stray, Dosing, Room, Size, Spans, Version}
+use Rattle.refusal.specs.declared.Refusal.TheVariants.{Empty, Many, Zero, Long, Order, Cycle, Tight, Report, Stray, Dosing, Room, Size, Spans, Version}
 use Rattle.refusal.specs.declared.Refusal.TheVariants.{Record as NotSound}
 use Rattle.refusal.specs.Order.{accepted, given, or_else}
 use Rattle.refusal.proofs.Order.{accepted_none, passes}
@@ -113,23 +114,23 @@ module _ (rs : List Row) (q : Record) where
   sound_exactly = (test_sound, sound_test)
 
 -- ---- refusals one after another
-pub not_none : (f : Refusal) → (f ≡ None → ⊥) → accepted f ≡ false
+pub not_none : (f : Option Refusal) → (f ≡ None → ⊥) → accepted f ≡ false
 not_none f h = false_if (accepted f) (λ z. h (accepted_none f z))
 
-module _ {a b : Refusal} (A B : Refusal → Type 0) (first : (f : Refusal) → (a ≡ f) ↔ A f) (later : (f : Refusal) → (b ≡ f) ↔ B f) where
-  chain_if : (f : Refusal) → Then A B f → or_else a b ≡ f
+module _ {a b : Option Refusal} (A B : Option Refusal → Type 0) (first : (f : Option Refusal) → (a ≡ f) ↔ A f) (later : (f : Option Refusal) → (b ≡ f) ↔ B f) where
+  chain_if : (f : Option Refusal) → Then A B f → or_else a b ≡ f
   unfolding or_else
   chain_if f (inl h) =
       let e : a ≡ f = (first f).1 h.0 in
       rw (e, not_none f h.1) refl
   chain_if f (inr h) = sym (passes a b ((first None).1 h.0)) ∙ (later f).1 h.1
 
-  some_chain : (f : Refusal) × Then A B f
+  some_chain : (f : Option Refusal) × Then A B f
   some_chain =
       ⊎_elim (λ (z : accepted a ≡ true). (b, inr ((first None).0 (accepted_none a z), (later b).0 refl)))
       (λ (z : accepted a ≡ false). (a, inl ((first a).0 refl, λ e. never (ap accepted e) z))) (split (accepted a))
 
-  pub chain : (f : Refusal) → (or_else a b ≡ f) ↔ Then A B f
+  pub chain : (f : Option Refusal) → (or_else a b ≡ f) ↔ Then A B f
   chain = exact (Then A B) chain_if some_chain
 
 -- ---- at a record: 1 to 7, then 9
@@ -139,52 +140,52 @@ module _ (t : Table) (q : Record) where
   last g = sym (passes (table_refusal t) (given (not (sound (used t) q)) NotSound) ((table_gives t None).1 g))
 
   -- one of 1 to 7
-  at_table : (f : Refusal) → accepted f ≡ false → TableGives t f → record_refusal t q ≡ f
+  at_table : (f : Option Refusal) → accepted f ≡ false → TableGives t f → record_refusal t q ≡ f
   unfolding record_refusal or_else
   at_table f a g = rw ((table_gives t f).1 g, a)
 
   -- nothing gives the variants that have no clause here
-  record_if : (f : Refusal) → RecordGives t q f → record_refusal t q ≡ f
+  record_if : (f : Option Refusal) → RecordGives t q f → record_refusal t q ≡ f
   unfolding RecordGives
   record_if None g = last g.0 ∙ rw ((sound_exactly (used t) q).1 g.1) refl
-  record_if NotSound g = last g.0 ∙ rw (false_if (sound (used t) q) (λ h. g.1 ((sound_exactly (used t) q).0 h))) refl
-  record_if Empty g = at_table Empty refl g
-  record_if Many g = at_table Many refl g
-  record_if (Zero k) g = at_table (Zero k) refl g
-  record_if (Long k) g = at_table (Long k) refl g
-  record_if (Order k) g = at_table (Order k) refl g
-  record_if Cycle g = at_table Cycle refl g
-  record_if (Tight k) g = at_table (Tight k) refl g
-  record_if Room g = elim g [ ]
-  record_if Report g = elim g [ ]
-  record_if Stray g = elim g [ ]
-  record_if Size g = elim g [ ]
-  record_if Version g = elim g [ ]
-  record_if Dosing g = elim g [ ]
-  record_if Spans g = elim g [ ]
+  record_if (Some NotSound) g = last g.0 ∙ rw (false_if (sound (used t) q) (λ h. g.1 ((sound_exactly (used t) q).0 h))) refl
+  record_if (Some Empty) g = at_table (Some Empty) refl g
+  record_if (Some Many) g = at_table (Some Many) refl g
+  record_if (Some (Zero k)) g = at_table (Some (Zero k)) refl g
+  record_if (Some (Long k)) g = at_table (Some (Long k)) refl g
+  record_if (Some (Order k)) g = at_table (Some (Order k)) refl g
+  record_if (Some Cycle) g = at_table (Some Cycle) refl g
+  record_if (Some (Tight k)) g = at_table (Some (Tight k)) refl g
+  record_if (Some Room) g = elim g [ ]
+  record_if (Some Report) g = elim g [ ]
+  record_if (Some Stray) g = elim g [ ]
+  record_if (Some Size) g = elim g [ ]
+  record_if (Some Version) g = elim g [ ]
+  record_if (Some Dosing) g = elim g [ ]
+  record_if (Some Spans) g = elim g [ ]
 
-  some_record : (f : Refusal) → TableGives t f → (f : Refusal) × RecordGives t q f
+  some_record : (f : Option Refusal) → TableGives t f → (f : Option Refusal) × RecordGives t q f
   unfolding RecordGives TableGives
   some_record None g =
       ⊎_elim (λ (h : sound (used t) q ≡ true). (None, (g, (sound_exactly (used t) q).0 h)))
-      (λ (h : sound (used t) q ≡ false). (NotSound, (g, λ s. never ((sound_exactly (used t) q).1 s) h))) (split (sound (used t) q))
-  some_record Empty g = (Empty, g)
-  some_record Many g = (Many, g)
-  some_record (Zero k) g = (Zero k, g)
-  some_record (Long k) g = (Long k, g)
-  some_record (Order k) g = (Order k, g)
-  some_record Cycle g = (Cycle, g)
-  some_record (Tight k) g = (Tight k, g)
-  some_record Room g = elim g [ ]
-  some_record NotSound g = elim g [ ]
-  some_record Report g = elim g [ ]
-  some_record Stray g = elim g [ ]
-  some_record Size g = elim g [ ]
-  some_record Version g = elim g [ ]
-  some_record Dosing g = elim g [ ]
-  some_record Spans g = elim g [ ]
+      (λ (h : sound (used t) q ≡ false). (Some NotSound, (g, λ s. never ((sound_exactly (used t) q).1 s) h))) (split (sound (used t) q))
+  some_record (Some Empty) g = (Some Empty, g)
+  some_record (Some Many) g = (Some Many, g)
+  some_record (Some (Zero k)) g = (Some (Zero k), g)
+  some_record (Some (Long k)) g = (Some (Long k), g)
+  some_record (Some (Order k)) g = (Some (Order k), g)
+  some_record (Some Cycle) g = (Some Cycle, g)
+  some_record (Some (Tight k)) g = (Some (Tight k), g)
+  some_record (Some Room) g = elim g [ ]
+  some_record (Some NotSound) g = elim g [ ]
+  some_record (Some Report) g = elim g [ ]
+  some_record (Some Stray) g = elim g [ ]
+  some_record (Some Size) g = elim g [ ]
+  some_record (Some Version) g = elim g [ ]
+  some_record (Some Dosing) g = elim g [ ]
+  some_record (Some Spans) g = elim g [ ]
 
-  pub record_gives : (f : Refusal) → (record_refusal t q ≡ f) ↔ RecordGives t q f
+  pub record_gives : (f : Option Refusal) → (record_refusal t q ≡ f) ↔ RecordGives t q f
   record_gives = exact (RecordGives t q) record_if (some_record (table_refusal t) ((table_gives t (table_refusal t)).0 refl))
 
 -- ---- a report: 10 before 11
@@ -209,48 +210,48 @@ module _ (w : Work) where
   report_ends rep (inl e) = rw e refl
   report_ends rep (inr e) = rw e refl
 
-  report_if : (rep : ℕ) (f : Refusal) → ReportGives w rep f → report_refusal w rep ≡ f
+  report_if : (rep : ℕ) (f : Option Refusal) → ReportGives w rep f → report_refusal w rep ≡ f
   unfolding ReportGives report_refusal or_else
   report_if rep None (inl e) = rw e refl
   report_if rep None (inr h) = report_ends rep h.0 ∙ rw (ran_test w h.1) refl
-  report_if rep Report g = rw (lt-ltb 2 rep g) refl
-  report_if rep Stray g = report_ends rep g.0 ∙ rw (not_ran w g.1) refl
-  report_if rep Empty g = elim g [ ]
-  report_if rep Many g = elim g [ ]
-  report_if rep (Zero _) g = elim g [ ]
-  report_if rep (Long _) g = elim g [ ]
-  report_if rep (Order _) g = elim g [ ]
-  report_if rep Cycle g = elim g [ ]
-  report_if rep (Tight _) g = elim g [ ]
-  report_if rep Room g = elim g [ ]
-  report_if rep NotSound g = elim g [ ]
-  report_if rep Size g = elim g [ ]
-  report_if rep Version g = elim g [ ]
-  report_if rep Dosing g = elim g [ ]
-  report_if rep Spans g = elim g [ ]
+  report_if rep (Some Report) g = rw (lt-ltb 2 rep g) refl
+  report_if rep (Some Stray) g = report_ends rep g.0 ∙ rw (not_ran w g.1) refl
+  report_if rep (Some Empty) g = elim g [ ]
+  report_if rep (Some Many) g = elim g [ ]
+  report_if rep (Some (Zero _)) g = elim g [ ]
+  report_if rep (Some (Long _)) g = elim g [ ]
+  report_if rep (Some (Order _)) g = elim g [ ]
+  report_if rep (Some Cycle) g = elim g [ ]
+  report_if rep (Some (Tight _)) g = elim g [ ]
+  report_if rep (Some Room) g = elim g [ ]
+  report_if rep (Some NotSound) g = elim g [ ]
+  report_if rep (Some Size) g = elim g [ ]
+  report_if rep (Some Version) g = elim g [ ]
+  report_if rep (Some Dosing) g = elim g [ ]
+  report_if rep (Some Spans) g = elim g [ ]
 
-  some_end : (rep : ℕ) → Ends rep → (w' : Work) → w ≡ w' → (f : Refusal) × ReportGives w rep f
+  some_end : (rep : ℕ) → Ends rep → (w' : Work) → w ≡ w' → (f : Option Refusal) × ReportGives w rep f
   unfolding ReportGives
-  some_end rep e idle d = (Stray, (e, λ r. never (ran_test w r) (ap ran_primary d)))
+  some_end rep e idle d = (Some Stray, (e, λ r. never (ran_test w r) (ap ran_primary d)))
   some_end rep e (primary k) d = (None, inr (e, (k, d)))
-  some_end rep e (alternate k) d = (Stray, (e, λ r. never (ran_test w r) (ap ran_primary d)))
+  some_end rep e (alternate k) d = (Some Stray, (e, λ r. never (ran_test w r) (ap ran_primary d)))
 
-  some_report : (rep : ℕ) → (f : Refusal) × ReportGives w rep f
+  some_report : (rep : ℕ) → (f : Option Refusal) × ReportGives w rep f
   unfolding ReportGives
   some_report zero = (None, inl refl)
   some_report (suc zero) = some_end 1 (inl refl) w refl
   some_report (suc (suc zero)) = some_end 2 (inr refl) w refl
-  some_report (suc (suc (suc n))) = (Report, omega arith)
+  some_report (suc (suc (suc n))) = (Some Report, omega arith)
 
-  pub report_gives : (rep : ℕ) (f : Refusal) → (report_refusal w rep ≡ f) ↔ ReportGives w rep f
+  pub report_gives : (rep : ℕ) (f : Option Refusal) → (report_refusal w rep ≡ f) ↔ ReportGives w rep f
   report_gives rep = exact (ReportGives w rep) (report_if rep) (some_report rep)
 
 -- ---- one slot: 1 to 7, 9, then 10 before 11
-pub slot_gives : (t : Table) (q : Record) (rep : ℕ) (f : Refusal) → ((stepped_by t q rep).refusal ≡ f) ↔ SlotGives t q rep f
+pub slot_gives : (t : Table) (q : Record) (rep : ℕ) (f : Option Refusal) → ((stepped_by t q rep).refusal ≡ f) ↔ SlotGives t q rep f
 unfolding stepped_by slot_under SlotGives
 slot_gives t q rep = chain (RecordGives t q) (ReportGives (what (used t) q) rep) (record_gives t q) (report_gives (what (used t) q) rep)
 
 -- ---- a fresh start: 1 to 7
-pub fresh_gives : (t : Table) (f : Refusal) → ((started_for t).refusal ≡ f) ↔ TableGives t f
+pub fresh_gives : (t : Table) (f : Option Refusal) → ((started_for t).refusal ≡ f) ↔ TableGives t f
 unfolding started_for
 fresh_gives t f = table_gives t f

@@ -1,6 +1,7 @@
 -- What a slot and a run hand back, refused ones too: 'A refusal gives back the record of the last accepted slot, or the one handed in where none was, and in a lent log only the
 -- bytes of accepted slots are new.'
 -- Assumes nothing.
+use Rattle.std.specs.Prelude.{Option, Some, None}
 use mathlib.Core.Path.{◌≡◌, refl, sym, ap, ◌∙◌, subst}
 use mathlib.Core.Logic.{◌⊎◌, inl, inr, ⊎_elim}
 use mathlib.Core.Bool.{true, false}
@@ -12,7 +13,7 @@ use lib.Dec.{ltb}
 use lib.ListN.{length, get_or, take, drop, length-append, length-drop, get_or-append}
 use lib.Seq.{get_or-append-add, get_or-drop, take_at, drop_at}
 use Rattle.refusal.specs.declared.Refusal.{Refusal}
-use Rattle.refusal.specs.declared.Refusal.TheVariants.{None, Room, Report, Stray, Cycle, Dosing, Empty, Long, Many, Order, Record as NotSound, Size, Spans, Tight, Version, Zero}
+use Rattle.refusal.specs.declared.Refusal.TheVariants.{Room, Report, Stray, Cycle, Dosing, Empty, Long, Many, Order, Record as NotSound, Size, Spans, Tight, Version, Zero}
 use Rattle.refusal.specs.Order.{accepted, beside}
 use Rattle.refusal.specs.Lent.{overlaid}
 use Rattle.refusal.proofs.Order.{accepted_none, none_first, none_later, given_not}
@@ -36,7 +37,7 @@ use Rattle.slots.proofs.ExactlyWhen.{not_none}
 use Rattle.slots.proofs.ListsWhen.{list_stops, run_entered, run_gives}
 
 -- ---- one slot: beside a refusal, the record given and 0
-pub slot_refused : (f : Refusal) → (f ≡ None → ⊥) → (rs : List Row) (q : Record) (rep : ℕ) → slot_under f rs q rep ≡ record { refusal = f; next = q; ran = 0 }
+pub slot_refused : (f : Option Refusal) → (f ≡ None → ⊥) → (rs : List Row) (q : Record) (rep : ℕ) → slot_under f rs q rep ≡ record { refusal = f; next = q; ran = 0 }
 unfolding slot_under beside
 slot_refused f h rs q rep = rw (not_none f h) refl
 
@@ -48,40 +49,40 @@ step_hands_back t q rep h =
 
 -- ---- a list of reports
 -- 10 or 11
-abbrev pub ByReport : Refusal → Type 0
-ByReport f = (f ≡ Report) ⊎ (f ≡ Stray)
+abbrev pub ByReport : Option Refusal → Type 0
+ByReport f = (f ≡ (Some Report)) ⊎ (f ≡ (Some Stray))
 
 -- what stops the list, if anything does, is one of them
-report_kinds : (w : Work) (rep : ℕ) (f : Refusal) → ReportGives w rep f → (f ≡ None) ⊎ ByReport f
+report_kinds : (w : Work) (rep : ℕ) (f : Option Refusal) → ReportGives w rep f → (f ≡ None) ⊎ ByReport f
 unfolding ReportGives
 report_kinds w rep None g = inl refl
-report_kinds w rep Report g = inr (inl refl)
-report_kinds w rep Stray g = inr (inr refl)
-report_kinds w rep Empty g = elim g [ ]
-report_kinds w rep Many g = elim g [ ]
-report_kinds w rep (Zero _) g = elim g [ ]
-report_kinds w rep (Long _) g = elim g [ ]
-report_kinds w rep (Order _) g = elim g [ ]
-report_kinds w rep Cycle g = elim g [ ]
-report_kinds w rep (Tight _) g = elim g [ ]
-report_kinds w rep Room g = elim g [ ]
-report_kinds w rep NotSound g = elim g [ ]
-report_kinds w rep Size g = elim g [ ]
-report_kinds w rep Version g = elim g [ ]
-report_kinds w rep Dosing g = elim g [ ]
-report_kinds w rep Spans g = elim g [ ]
+report_kinds w rep (Some Report) g = inr (inl refl)
+report_kinds w rep (Some Stray) g = inr (inr refl)
+report_kinds w rep (Some Empty) g = elim g [ ]
+report_kinds w rep (Some Many) g = elim g [ ]
+report_kinds w rep (Some (Zero _)) g = elim g [ ]
+report_kinds w rep (Some (Long _)) g = elim g [ ]
+report_kinds w rep (Some (Order _)) g = elim g [ ]
+report_kinds w rep (Some Cycle) g = elim g [ ]
+report_kinds w rep (Some (Tight _)) g = elim g [ ]
+report_kinds w rep (Some Room) g = elim g [ ]
+report_kinds w rep (Some NotSound) g = elim g [ ]
+report_kinds w rep (Some Size) g = elim g [ ]
+report_kinds w rep (Some Version) g = elim g [ ]
+report_kinds w rep (Some Dosing) g = elim g [ ]
+report_kinds w rep (Some Spans) g = elim g [ ]
 
 run_kinds : (rs : List Row) (q : Record) (reps : List ℕ) → ((run_of rs q reps).refusal ≡ None) ⊎ ByReport (run_of rs q reps).refusal
 run_kinds rs q reps = ⊎_elim (λ h. inl h.0) (λ h. report_kinds _ _ _ h.2) (list_stops rs q reps).stop
 
 module _ (t : Table) (q : Record) (reps old kept : List ℕ) where
   -- the list is run, and the log has room for it, or nothing is
-  outcome_has : (P : Outcome → Type 0) → (length reps ≤ length old → P (run_of (used t) q reps)) → ((f : Refusal) → P (stopped f q)) → P (outcome_of t q reps old kept)
+  outcome_has : (P : Outcome → Type 0) → (length reps ≤ length old → P (run_of (used t) q reps)) → ((f : Option Refusal) → P (stopped f q)) → P (outcome_of t q reps old kept)
   unfolding outcome_of entry_refusal
   outcome_has P run stop =
       ⊎_elim
       (λ (z : accepted (entry_refusal t q reps old kept) ≡ true).
-      let room = given_not (roomless t reps old kept) Room (omega arith) (none_later _ _ (accepted_none (entry_refusal t q reps old kept) z)) in
+      let room = given_not (roomless t reps old kept) Room (none_later _ _ (accepted_none (entry_refusal t q reps old kept) z)) in
       rw z (run (ltb-false (length old) (length reps) (or_first (ltb (length old) (length reps)) (ltb (length kept) (cycle_of (used t))) room))))
       (λ (z : accepted (entry_refusal t q reps old kept) ≡ false). rw z (stop (entry_refusal t q reps old kept)))
       (split (accepted (entry_refusal t q reps old kept)))
@@ -123,7 +124,7 @@ module _ (t : Table) (q : Record) (reps old kept : List ℕ) where
       ∙ ap (λ (k : ℕ). get_or old k 0) e
 
   -- a refusal by 1 to 9: nothing is accepted, and nothing changes
-  pub early_hands_back : ((ran_by t q reps old kept).refusal ≡ None → ⊥) → ((ran_by t q reps old kept).refusal ≡ Report → ⊥) → ((ran_by t q reps old kept).refusal ≡ Stray → ⊥)
+  pub early_hands_back : ((ran_by t q reps old kept).refusal ≡ None → ⊥) → ((ran_by t q reps old kept).refusal ≡ (Some Report) → ⊥) → ((ran_by t q reps old kept).refusal ≡ (Some Stray) → ⊥)
       → ((ran_by t q reps old kept).slots ≡ 0) × ((ran_by t q reps old kept).next ≡ q) × (log_after t q reps old kept ≡ old) × (buffer_after t q reps old kept ≡ kept)
   unfolding ran_by log_after buffer_after overlaid outcome_of
   early_hands_back a b c =
@@ -150,7 +151,7 @@ module _ (t : Table) (q : Record) (reps old kept : List ℕ) where
 
     room : roomless t reps old kept ≡ false
     unfolding entry_refusal
-    room = given_not (roomless t reps old kept) Room (omega arith) (none_later _ _ entry)
+    room = given_not (roomless t reps old kept) Room (none_later _ _ entry)
 
     pub buffer_room : cycle_of (used t) ≤ length kept
     buffer_room = ltb-false (length kept) (cycle_of (used t)) (or_second (ltb (length old) (length reps)) (ltb (length kept) (cycle_of (used t))) room)

@@ -44,9 +44,6 @@ passed true n k row b l = refl
 passed false n k row b l = rw (le-ltb n k l)
 
 module _ {row first end units s left : ℕ} {old out : List ℕ} (g : Holding row first end units old out s left) where
-  pub holding_place : first < s → end ≤ length old → s - 1 < length out
-  holding_place l room = omega (arith, g.upto, g.bytes.size)
-
   pub holding_step : first < s → (left ≡ 0 → ⊥) → end ≤ length old → {x y : ℕ} → x ≡ cond (eqb (get_or out (s - 1) 0) 0 || eqb (get_or out (s - 1) 0) row) row (get_or out (s - 1) 0)
       → y ≡ cond (eqb (get_or out (s - 1) 0) 0 || eqb (get_or out (s - 1) 0) row) (left - 1) left → Holding row first end units old (set out (s - 1) x) (s - 1) y
   holding_step l p room {x} {y} ex ey =
@@ -73,7 +70,3 @@ module _ {row first end units s left : ℕ} {old out : List ℕ} (g : Holding ro
       written_kept g.bytes g.from
       (λ t u v.
       passed (H t) (between H (suc t) end) units row (get_or old t 0) (omega (arith, g.rest, within_later (λ x. not (H x)) (suc t) s end v)))
-
-  -- the window's first usable slot is passed
-  pub holding_end : s ≤ first → Written first end (byte_after row end units old) old out
-  holding_end l = let q : s ≡ first = omega (arith, g.from) in rw q at g.bytes

@@ -1,5 +1,6 @@
 -- Lost units of joined lists are those of the first, and then those of the second from the record which the first gives.
 -- Assumes nothing.
+use Rattle.std.specs.Prelude.{None}
 use mathlib.Core.Path.{◌≡◌, sym, ap, ap₂, ◌∙◌}
 use mathlib.Core.Logic.{⊎_elim}
 use mathlib.Core.Bool.{true, false}
@@ -7,7 +8,6 @@ use mathlib.Core.List.{List, [], ◌∷◌, ◌++◌}
 use Prim.Native.Nat.{ℕ, ◌+◌}
 use native.Mathlib.Omega.{arith}
 use lib.ListN.{length}
-use Rattle.refusal.specs.declared.Refusal.TheVariants.{None}
 use Rattle.refusal.specs.Order.{accepted}
 use Rattle.table.specs.declared.Row.{Row}
 use Rattle.rule.proofs.Tests.{split, never}

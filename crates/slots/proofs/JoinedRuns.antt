@@ -1,11 +1,11 @@
 -- Lists of reports joined up: a run of both is the run of the first, and then that of the second from the record which the first gives.
 -- Assumes nothing.
+use Rattle.std.specs.Prelude.{None}
 use mathlib.Core.Path.{◌≡◌, sym, ap, ◌∙◌}
 use mathlib.Core.Logic.{◌≢◌, ⊎_elim}
 use mathlib.Core.Bool.{true, false}
 use mathlib.Core.List.{List, [], ◌∷◌, ◌++◌}
 use Prim.Native.Nat.{ℕ}
-use Rattle.refusal.specs.declared.Refusal.TheVariants.{None}
 use Rattle.refusal.specs.Order.{accepted}
 use Rattle.refusal.proofs.Order.{accepted_none}
 use Rattle.table.specs.declared.Row.{Row}

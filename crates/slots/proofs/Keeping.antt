@@ -1,17 +1,17 @@
 -- The buffer made true again as a stretch has ended: built at slot 0, refilled after a done, and else true already.
 -- Assumes nothing.
-use mathlib.Core.Path.{◌≡◌, refl, sym, ◌∙◌}
+use mathlib.Core.Path.{◌≡◌, refl, sym, ap, ◌∙◌}
 use mathlib.Core.List.{List}
 use Prim.Native.Nat.{ℕ, zero, suc, ◌-◌, ◌≤◌, ◌<◌}
 use native.Mathlib.Omega.{arith}
 use lib.ListN.{length, get_or}
 use Rattle.table.specs.declared.Row.{Row}
 use Rattle.table.specs.declared.Table.{Table}
-use Rattle.table.specs.Rows.{used, blank}
+use Rattle.table.specs.Rows.{used, blank, row_at}
 use Rattle.table.specs.Windows.{window_end}
 use Rattle.rule.proofs.Alike.{holder_alike}
 use Rattle.reserve.specs.Tables.{ends}
-use Rattle.reserve.proofs.Ready.{few, size, period_some}
+use Rattle.reserve.proofs.Ready.{few, size, row_is, period_some}
 use Rattle.slots.specs.declared.Job.{Job}
 use Rattle.slots.specs.declared.Record.{Record}
 use Rattle.slots.specs.Sound.{claims_of}
@@ -19,7 +19,7 @@ use Rattle.slots.specs.OneSlot.{holder_at}
 use Rattle.slots.specs.Buffer.{Kept, Freed, Refilled, Stale}
 use Rattle.slots.specs.Turns.{Steady}
 use Rattle.slots.proofs.Settled.{stands_ready, stands_ticks}
-use Rattle.slots.proofs.Openings.{end_is_row, end_in_cycle, end_small}
+use Rattle.slots.proofs.Openings.{end_in_cycle, end_small}
 
 -- where the window has ended, the claims from before are those of now
 freed_over : {rs : List Row} {cycle : ℕ} {q : Record} {place end : ℕ} {kept : List ℕ} → Freed rs cycle q place end kept → end ≤ q.clock
@@ -70,18 +70,23 @@ module _ {t : Table} {cycle clock : ℕ} {jobs : List Job} (g : Steady t cycle (
       abbrev row : Row
       row = get_or t.rows (finished - 1) blank
 
+      same_row : row ≡ row_at (used t) (finished - 1)
+      same_row = row_is (stands_ready g) full (finished - 1) place
+
       pub keep_period : 0 < row.period
       keep_period = period_some (stands_ready g) full (finished - 1) place
 
       pub keep_end_fits : window_end row (clock - 1) < 65536
-      keep_end_fits = end_small (stands_ready g) full (finished - 1) (clock - 1) place before
+      keep_end_fits = rw same_row (end_small (stands_ready g) refl freed.is_row (clock - 1) before)
 
       module _ (end : ℕ) (is_end : end ≡ window_end row (clock - 1)) where
         same_end : ends (used t) (finished - 1) (clock - 1) ≡ end
-        same_end = sym (is_end ∙ end_is_row (stands_ready g) full (finished - 1) (clock - 1) place before)
+        unfolding ends
+        same_end = sym (is_end ∙ ap (λ (r : Row). window_end r (clock - 1)) same_row)
 
         pub keep_in_cycle : end ≤ cycle
-        keep_in_cycle = omega (arith, is_end, end_in_cycle (stands_ready g) full (finished - 1) (clock - 1) place before)
+        unfolding ends
+        keep_in_cycle = omega (arith, same_end, end_in_cycle (stands_ready g) refl freed.is_row (clock - 1) before)
 
         pub keep_freed : Freed (used t) cycle q (finished - 1) end kept
         keep_freed = rw (← same_end) freed

@@ -1,5 +1,8 @@
 -- A list of reports, stretch by stretch, with the buffer true at the beginning of each.
 -- Assumes nothing.
+use Rattle.std.proofs.lemmas.Option.{none-some}
+use Rattle.slots.specs.Answers.{slot_under}
+use Rattle.std.specs.Prelude.{None, Some, Err}
 use mathlib.Core.Path.{◌≡◌, refl, sym, ap, ◌∙◌, subst}
 use mathlib.Core.Logic.{⊎_elim}
 use mathlib.Core.Bool.{true, false, cond}
@@ -10,35 +13,28 @@ use borrow.Author.Tests.{eqb-true, eqb-false}
 use lib.Dec.{eqb}
 use lib.ListN.{length, get_or}
 use Rattle.refusal.specs.declared.Refusal.{Refusal}
-use Rattle.refusal.specs.declared.Refusal.TheVariants.{None}
-use Rattle.refusal.specs.Order.{accepted}
-use Rattle.refusal.proofs.Order.{Told, refused}
 use Rattle.table.specs.declared.Row.{Row}
 use Rattle.table.specs.declared.Table.{Table}
 use Rattle.table.specs.Rows.{used}
-use Rattle.rule.proofs.Tests.{split, never}
+use Rattle.rule.proofs.Tests.{split}
 use Rattle.reserve.specs.Tables.{ends}
 use Rattle.reserve.specs.Turns.{Ready}
 use Rattle.reserve.proofs.Verdict.{table_accepted}
 use Rattle.slots.specs.declared.Job.{Job}
 use Rattle.slots.specs.declared.Record.{Record}
-use Rattle.slots.specs.declared.turn.Turn.{Turn}
-use Rattle.slots.specs.OneSlot.{waits, reserved, unreserved, renewed, holder_at}
+use Rattle.slots.specs.OneSlot.{waits, reserved, unreserved, renewed, holder_at, what}
 use Rattle.slots.specs.WaitingSet.{set_from}
-use Rattle.slots.specs.Reports.{run_of}
+use Rattle.slots.specs.Reports.{run_of, report_refusal}
 use Rattle.slots.specs.Buffer.{Kept, Freed, Stale}
 use Rattle.slots.specs.Turns.{Steady, Quiet, Standing, RunLeaves, lowest_in, turn_of, lost_by}
 use Rattle.slots.proofs.SoundRecord.{table_usable}
 use Rattle.slots.proofs.Settled.{stands_ready, stands_sound}
 use Rattle.slots.proofs.LostBound.{open_units, open_few}
 use Rattle.slots.proofs.Renewals.{Renewal, renewal_start, renewal_jobs, renewal_set, renewal_quiet}
-use Rattle.slots.proofs.RunLoop.{Going, going_start, Passed, passed_none, passed_join, passed_size, stops_answer, ends_answer, ends_lost}
-use Rattle.slots.proofs.Stretches.{Stretching, true_now, passed_now, stretch_report, stretch_ticks, stretch_slot, slot}
+use Rattle.slots.proofs.RunLoop.{Going, going_start, Passed, passed_none, passed_join, stops_answer, ends_answer, ends_lost}
+use Rattle.slots.proofs.Stretches.{Stretching, true_now, passed_now, stretch_report, stretch_ticks, stretch_refused}
 
--- a buffer that is true of a record stays so, whatever it is held to have held
-kept_again : {rs : List Row} {cycle : ℕ} {q : Record} {old kept : List ℕ} → Kept rs cycle q old kept → Kept rs cycle q kept kept
-kept_again g = record { ticks = g.ticks; size = refl; behind = g.behind; ahead = g.ahead; past = λ s l. refl }
-
+-- a buffer that is true of a record, whatever it is held to have held
 kept_since : {rs : List Row} {cycle : ℕ} {q : Record} {old mid kept : List ℕ} → length mid ≡ length old → ((s : ℕ) → cycle ≤ s → get_or mid s 0 ≡ get_or old s 0)
     → Kept rs cycle q mid kept → Kept rs cycle q old kept
 kept_since e h g = record { ticks = g.ticks; size = g.size ∙ e; behind = g.behind; ahead = g.ahead; past = λ s l. g.past s l ∙ h s l }
@@ -74,53 +70,7 @@ coursing_start {t} {cycle} {clock} {jobs} g e f reps u log =
       quiet = g.quiet;
     }
 
-module _ {t : Table} {cycle : ℕ} {reps log₀ kept₀ : List ℕ} {jobs₀ : List Job} {clock₀ lost₀ i₀ : ℕ} {log kept : List ℕ} {jobs : List Job} {clock waiting opens lost i : ℕ}
-    (f : Coursing t cycle reps log₀ kept₀ jobs₀ clock₀ lost₀ i₀ log kept jobs clock waiting opens lost i) where
-  pub coursing_ahead : clock ≤ opens
-  coursing_ahead = omega (arith, f.quiet.later)
-
-  pub coursing_some : 0 < opens - clock
-  coursing_some = omega (arith, f.quiet.later)
-
-  -- a stretch begins
-  pub stretch_begins : i < length reps → (stop : ℕ) → i < stop → stop ≤ length reps → stop - i ≤ opens - clock
-      → Stretching t cycle reps log kept jobs clock opens lost i log kept jobs clock waiting lost i stop 0
-  stretch_begins l stop a b c = record {
-    q = record { clock = clock; jobs = jobs };
-    passed = passed_none t reps (record { clock = clock; jobs = jobs }) i lost log;
-    going = f.going;
-    few = f.few;
-    short = f.short;
-    full = f.full;
-    sixteen = f.going.sixteen;
-    room = omega (arith, f.room, f.true_buffer.size);
-    quiet = f.quiet;
-    from = omega arith;
-    upto = omega (arith, f.quiet.later);
-    here = λ _. refl;
-    turned = λ u. absurd (omega arith);
-    begun = a;
-    within = omega arith;
-    list = b;
-    near = c;
-    is_set = f.is_set;
-    size = refl;
-    past = λ s u. refl;
-    behind = f.true_buffer.behind;
-    ahead = λ _. f.true_buffer.ahead;
-    after_done = λ k z. absurd (omega (arith, z));
-  }
-
-  -- ---- the list's end
-  pub course_log : length log ≡ length log₀
-  course_log = passed_size f.passed
-
-  pub course_buffer : length kept ≡ length kept₀
-  course_buffer = f.true_buffer.size
-
-  pub course_kept : Kept (used t) cycle (record { clock = clock; jobs = jobs }) kept₀ kept
-  course_kept = f.true_buffer
-
+-- ---- the list's end
 pub course_ends : {t : Table} {cycle : ℕ} {reps log₀ kept₀ : List ℕ} {jobs₀ : List Job} {clock₀ : ℕ} {log kept : List ℕ} {jobs : List Job} {clock waiting opens lost i : ℕ}
     → Coursing t cycle reps log₀ kept₀ jobs₀ clock₀ 0 0 log kept jobs clock waiting opens lost i → length reps ≤ i
     → RunLeaves (run_of (used t) (record { clock = clock₀; jobs = jobs₀ }) reps) log₀ None i (record { clock = clock; jobs = jobs }) log
@@ -180,9 +130,6 @@ module _ {t : Table} {cycle : ℕ} {reps log₁ kept₁ : List ℕ} {jobs₁ : L
             subst (λ (y : ℕ). Freed (used t) cycle q n (ends (used t) n (y - 1)) kept) (sym (stays l)) (subst (λ (y : Record). Freed (used t) cycle y n (ends (used t) n (clock - 1)) kept) is_record d);
       }
 
-      pub stretch_on : length reps - i < length reps - i₁
-      stretch_on = omega (arith, after, g.list, g.within, end)
-
       -- the next stretch
       pub coursing_step : {log₀ kept₀ : List ℕ} {jobs₀ : List Job} {clock₀ waiting₁ lost₀ i₀ : ℕ} → Coursing t cycle reps log₀ kept₀ jobs₀ clock₀ lost₀ i₀ log₁ kept₁ jobs₁ clock₁ waiting₁ opens₁ lost₁ i₁
           → {new : List ℕ} → Kept (used t) cycle q kept new → Coursing t cycle reps log₀ kept₀ jobs₀ clock₀ lost₀ i₀ log new xs c x opens lost i
@@ -203,9 +150,6 @@ module _ {t : Table} {cycle : ℕ} {reps log₁ kept₁ : List ℕ} {jobs₁ : L
   -- ---- the list is stopped in the stretch
   module _ {log₀ kept₀ : List ℕ} {jobs₀ : List Job} {clock₀ waiting₁ lost₀ i₀ : ℕ} (f : Coursing t cycle reps log₀ kept₀ jobs₀ clock₀ lost₀ i₀ log₁ kept₁ jobs₁ clock₁ waiting₁ opens₁ lost₁ i₁)
     where
-      pub stop_log : length log ≡ length log₀
-      stop_log = passed_size g.passed ∙ passed_size f.passed
-
       pub stop_buffer : length kept ≡ length kept₀
       stop_buffer = g.size ∙ f.true_buffer.size
 
@@ -223,21 +167,15 @@ pub stop_answer : {t : Table} {cycle : ℕ} {reps log₁ kept₁ : List ℕ} {jo
     {clock waiting lost i stop finished : ℕ} {log₀ kept₀ : List ℕ} {jobs₀ : List Job} {clock₀ waiting₁ : ℕ}
     → (g : Stretching t cycle reps log₁ kept₁ jobs₁ clock₁ opens₁ lost₁ i₁ log kept jobs clock waiting lost i stop finished)
     → (f : Coursing t cycle reps log₀ kept₀ jobs₀ clock₀ 0 0 log₁ kept₁ jobs₁ clock₁ waiting₁ opens₁ lost₁ i₁) → (l : i < stop)
-    → (d : Turn) → (e : d ≡ turn_of (reserved (get_or kept clock 0) (unreserved (lowest_in waiting))) (get_or reps i 0)) → Told d.refusal
-    → RunLeaves (run_of (used t) (record { clock = clock₀; jobs = jobs₀ }) reps) log₀ d.refusal i (record { clock = clock; jobs = jobs }) log
-stop_answer g f l d e p =
-    let same = stretch_slot g l d e in
-    rw same (stops_answer (passed_join f.passed (passed_now g l)) (stretch_report g l) (slot g l d e) refl (subst Told same p))
+    → (r : Refusal) → turn_of (reserved (get_or kept clock 0) (unreserved (lowest_in waiting))) (get_or reps i 0) ≡ Err r
+    → RunLeaves (run_of (used t) (record { clock = clock₀; jobs = jobs₀ }) reps) log₀ (Some r) i (record { clock = clock; jobs = jobs }) log
+unfolding slot_under
+stop_answer {t} {reps = reps} {jobs = jobs} {clock = clock} {i = i} g f l r e =
+    let told = stretch_refused g l r e in
+    let q : Record = record { clock = clock; jobs = jobs } in
+    let rep : ℕ = get_or reps i 0 in
+    rw (← told) (stops_answer (passed_join f.passed (passed_now g l)) (stretch_report g l) (slot_under (report_refusal (what (used t) q) rep) (used t) q rep) refl (λ z. none-some r (sym z ∙ told)))
 
 -- and then no lost units are told
-pub stop_lost : (f : Refusal) → Told f → (lost x : ℕ) → f ≡ None → lost ≡ x
-stop_lost f p lost x e = never (ap accepted e) (refused f p)
-
--- ---- from the start: the buffer is built, and then the list is run over it
-pub starts_standing : {t : Table} {cycle clock : ℕ} {jobs : List Job} {old kept : List ℕ} → Steady t cycle (record { clock = clock; jobs = jobs }) → cycle ≤ length old
-    → Kept (used t) cycle (record { clock = clock; jobs = jobs }) old kept → (waiting : ℕ) → waiting ≡ set_from (waits jobs) 0 t.n → (opens : ℕ) → Quiet (used t) cycle clock opens
-    → Standing t cycle clock jobs waiting opens kept
-starts_standing g room k waiting s opens o = record { steady = g; is_set = s; quiet = o; true_buffer = kept_again k; room = omega (arith, room, k.size) }
-
-pub built_kept_on : {rs : List Row} {cycle : ℕ} {start q : Record} {old mid kept : List ℕ} → Kept rs cycle start old mid → Kept rs cycle q mid kept → Kept rs cycle q old kept
-built_kept_on b g = kept_since b.size b.past g
+pub stop_lost : (r : Refusal) (lost x : ℕ) → Some r ≡ None → lost ≡ x
+stop_lost r lost x e = absurd (none-some r (sym e))

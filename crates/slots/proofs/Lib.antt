@@ -1,7 +1,6 @@
 pub mod Acts
 pub mod JobFacts
 pub mod Entries
-pub mod EntryCases
 pub mod EntryLoops
 pub mod SetLaws
 pub mod SlotCases
@@ -13,7 +12,6 @@ pub mod StaysSound
 pub mod FreshReservations
 pub mod Keeps
 pub mod KeptBuffer
-pub mod ByteCases
 pub mod Written
 pub mod Holding
 pub mod HoldingRow

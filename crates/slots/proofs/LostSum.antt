@@ -1,5 +1,6 @@
 -- Lost units kept slot by slot are the sum over the jobs of the history.
 -- Assumes nothing.
+use Rattle.std.specs.Prelude.{Option, None}
 use mathlib.Core.Path.{◌≡◌, sym, ap, ◌∙◌, subst}
 use mathlib.Core.Logic.{◌⊎◌, inl, inr, ⊎_elim}
 use mathlib.Core.Bool.{true, false}
@@ -8,7 +9,6 @@ use Prim.Native.Nat.{ℕ, zero, suc, ◌+◌, ◌-◌, ◌≤◌, ◌<◌, min}
 use native.Mathlib.Omega.{arith}
 use lib.ListN.{length, get_or-eq_default}
 use Rattle.refusal.specs.declared.Refusal.{Refusal}
-use Rattle.refusal.specs.declared.Refusal.TheVariants.{None}
 use Rattle.refusal.specs.Order.{accepted, beside}
 use Rattle.refusal.proofs.Order.{accepted_none, beside_not}
 use Rattle.table.specs.declared.Row.{Row}
@@ -179,7 +179,7 @@ lost_sum rs ok q s reps h =
     ∙ course_lost rs ok q s (length reps) (rec_after rs q reps) (logged log) (reported reps) course (λ t l. ap work_of (get_or-eq_default log 0 (omega (arith, whole))))
 
 -- and they are so beside the run's refusal, where both are 0 if a report is refused
-pub lost_beside : (rs : List Row) → Usable rs → (q : Record) → Sound rs q → (reps : List ℕ) (f : Refusal) → f ≡ (run_of rs q reps).refusal
+pub lost_beside : (rs : List Row) → Usable rs → (q : Record) → Sound rs q → (reps : List ℕ) (f : Option Refusal) → f ≡ (run_of rs q reps).refusal
     → beside f (lost_by rs q reps) ≡ beside f (lost_units rs q (logged (run_of rs q reps).log) (reported reps) (length reps))
 lost_beside rs ok q s reps f h =
     ⊎_elim (λ (z : accepted f ≡ true). ap (beside f) (lost_sum rs ok q s reps (sym h ∙ accepted_none f z)))

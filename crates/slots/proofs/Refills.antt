@@ -8,7 +8,7 @@ use Prim.Native.Nat.{ℕ, zero, suc, ◌+◌, ◌≤◌, ◌<◌}
 use native.Mathlib.Numerals.{add-one}
 use native.Mathlib.Omega.{arith}
 use lib.Dec.{leb}
-use lib.ListN.{length, get_or, set}
+use lib.ListN.{length, get_or}
 use borrow.Author.Tests.{le-leb, lt-leb}
 use Rattle.table.specs.declared.Row.{Row}
 use Rattle.table.specs.declared.Table.{Table}
@@ -26,30 +26,6 @@ use Rattle.slots.specs.Sound.{claims_of}
 use Rattle.slots.specs.OneSlot.{holder_at}
 use Rattle.slots.specs.Buffer.{Freed, Refilled, Written, above_at, Rowed}
 use Rattle.slots.proofs.ByteHolders.{row_passed}
-use Rattle.slots.proofs.Written.{written_start, written_up, written_end}
-
--- ---- the slots before s are given up
-pub record Giving (place clock end : ℕ) (old out : List ℕ) (s : ℕ) : Type 0 where
-  pub from : clock ≤ s
-  pub upto : s ≤ end
-  pub bytes : Written clock s (above_at place old) old out
-
-pub giving_start : (place clock end : ℕ) (old : List ℕ) → clock ≤ end → Giving place clock end old old clock
-giving_start place clock end old l = record { from = omega arith; upto = l; bytes = written_start clock (above_at place old) old }
-
-module _ {place clock end s : ℕ} {old out : List ℕ} (g : Giving place clock end old out s) where
-  pub giving_place : s < end → end ≤ length old → s < length out
-  giving_place l room = omega (arith, g.bytes.size)
-
-  pub giving_step : s < end → end ≤ length old → {x : ℕ} → x ≡ cond (leb (get_or out s 0) place) (get_or out s 0) 0 → Giving place clock end old (set out s x) (s + 1)
-  giving_step l room e = record {
-    from = omega (arith, g.from);
-    upto = omega arith;
-    bytes = written_up g.bytes g.from (omega arith) (e ∙ rw (g.bytes.beyond s (omega arith)));
-  }
-
-  pub giving_end : end ≤ s → Written clock end (above_at place old) old out
-  giving_end l = written_end g.bytes g.upto l
 
 -- ---- who holds a slot then
 -- the rows above place m, of n, keep their slots

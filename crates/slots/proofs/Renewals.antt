@@ -37,7 +37,7 @@ pub record Renewal (t : Table) (cycle c : ℕ) (js xs : List Job) (x opens k : �
   pub fewer : t.n ≤ 16
   pub within : k ≤ t.n
   pub sixteen : length xs ≡ 16
-  pub new : (j : ℕ) → k ≤ j → j < t.n → job_at xs j ≡ comes t c js j
+  pub new : (j : ℕ) → k ≤ j → j < t.n → job_at xs j ≡ comes (used t) c js j
   pub below : (j : ℕ) → j < k → job_at xs j ≡ job_at js j
   pub past : (j : ℕ) → t.n ≤ j → job_at xs j ≡ job_at js j
   pub is_set : x ≡ set_from (waits xs) k (t.n - k)
@@ -69,6 +69,12 @@ module _ {t : Table} {cycle c : ℕ} {js xs : List Job} {x opens k : ℕ} (g : R
     row : k - 1 < t.n
     row = omega (arith, g.within)
 
+    is_row : k - 1 < length (used t)
+    is_row = omega (arith, size g.ready g.full, row)
+
+    same_row : get_or t.rows (k - 1) blank ≡ row_at (used t) (k - 1)
+    same_row = row_is g.ready g.full (k - 1) row
+
     pub renewal_place : k - 1 < 16
     renewal_place = omega (arith, g.fewer, row)
 
@@ -79,7 +85,7 @@ module _ {t : Table} {cycle c : ℕ} {js xs : List Job} {x opens k : ℕ} (g : R
     renewal_period = period_some g.ready g.full (k - 1) row
 
     pub renewal_small : window_end (get_or t.rows (k - 1) blank) c < 65536
-    renewal_small = end_small g.ready g.full (k - 1) c row g.ticks
+    renewal_small = rw same_row (end_small g.ready refl is_row c g.ticks)
 
     -- there is room for one place more in the set
     pub renewal_room : x < 32768
@@ -89,9 +95,12 @@ module _ {t : Table} {cycle c : ℕ} {js xs : List Job} {x opens k : ℕ} (g : R
         most = omega (arith, g.within, g.fewer)
 
     module _ (j : Job) (is : j ≡ cond (starts (get_or t.rows (k - 1) blank) c) (new_job (get_or t.rows (k - 1) blank)) (get_or xs (k - 1) no_job)) (y : ℕ)
-        (joins : y ≡ unit (is_waiting j.state) + 2 * x) (next : ℕ) (m : next ≡ min opens (window_end (get_or t.rows (k - 1) blank) c)) where
+        (joins : y ≡ unit (is_waiting j.state) + 2 * x) (end next : ℕ) (is_end : end ≡ window_end (get_or t.rows (k - 1) blank) c) (m : next ≡ min opens end) where
       abbrev ys : List Job
       ys = set xs (k - 1) j
+
+      row_end : end ≡ window_end (row_at (used t) (k - 1)) c
+      row_end = is_end ∙ ap (λ (r : Row). window_end r c) same_row
 
       here : job_at ys (k - 1) ≡ j
       here = get_or-set_same xs (k - 1) j no_job renewal_entry
@@ -99,10 +108,10 @@ module _ {t : Table} {cycle c : ℕ} {js xs : List Job} {x opens k : ℕ} (g : R
       elsewhere : (i : ℕ) → (i ≡ k - 1 → ⊥) → job_at ys i ≡ job_at xs i
       elsewhere i ne = get_or-set_other xs (k - 1) i j no_job ne
 
-      comes_here : j ≡ comes t c js (k - 1)
+      comes_here : j ≡ comes (used t) c js (k - 1)
       comes_here =
           is
-          ∙ ap₂ (λ (r : Row) (y : Job). cond (starts r c) (new_job r) y) (row_is g.ready g.full (k - 1) row) (g.below (k - 1) (omega arith))
+          ∙ ap₂ (λ (r : Row) (y : Job). cond (starts r c) (new_job r) y) same_row (g.below (k - 1) (omega arith))
 
       is_set' : y ≡ set_from (waits ys) (k - 1) (t.n - (k - 1))
       unfolding set_from
@@ -123,15 +132,15 @@ module _ {t : Table} {cycle c : ℕ} {js xs : List Job} {x opens k : ℕ} (g : R
         fewer = g.fewer;
         within = omega (arith, g.within);
         sixteen = length-set xs (k - 1) j ∙ g.sixteen;
-        new = λ i l u. ⊎_elim (λ (q : k - 1 ≡ i). subst (λ (n : ℕ). job_at ys n ≡ comes t c js n) q (here ∙ comes_here)) (λ (v : k - 1 < i). elsewhere i (λ q. omega arith) ∙ g.new i (omega arith) u) (eq-or-lt_of_le l);
+        new = λ i l u. ⊎_elim (λ (q : k - 1 ≡ i). subst (λ (n : ℕ). job_at ys n ≡ comes (used t) c js n) q (here ∙ comes_here)) (λ (v : k - 1 < i). elsewhere i (λ q. omega arith) ∙ g.new i (omega arith) u) (eq-or-lt_of_le l);
         below = λ i l. elsewhere i (λ q. omega arith) ∙ g.below i (omega arith);
         past = λ i l. elsewhere i (λ q. omega (arith, row)) ∙ g.past i l;
         is_set = is_set';
-        later = omega (arith, g.later, m, end_after g.ready g.full (k - 1) c row g.ticks);
+        later = omega (arith, g.later, m, row_end, end_after g.ready refl is_row c g.ticks);
         upto = omega (arith, g.upto, m);
         none = λ i l u.
             ⊎_elim
-            (λ (q : k - 1 ≡ i). omega (arith, m, ap (λ (r : Row). window_end r c) (row_is g.ready g.full (k - 1) row), ap (λ (n : ℕ). window_end (row_at (used t) n) c) q))
+            (λ (q : k - 1 ≡ i). omega (arith, m, row_end, ap (λ (n : ℕ). window_end (row_at (used t) n) c) q))
             (λ (v : k - 1 < i). omega (arith, m, g.none i (omega arith) u)) (eq-or-lt_of_le l);
       }
 

@@ -1,5 +1,6 @@
 -- What a run gives, slot by slot: how many slots it takes, the record after each slot, and what its log tells. Where it stops stands in ListsWhen.
 -- Assumes nothing.
+use Rattle.std.specs.Prelude.{None}
 use mathlib.Core.Path.{◌≡◌, refl, sym, ap, ◌∙◌, subst}
 use mathlib.Core.Logic.{⊎_elim}
 use mathlib.Core.Bool.{true, false}
@@ -9,7 +10,6 @@ use native.Mathlib.Omega.{arith}
 use lib.ListN.{length, get_or}
 use borrow.Author.Tests.{eqb-false, lt-ltb, le-ltb}
 use lib.Dec.{eqb}
-use Rattle.refusal.specs.declared.Refusal.TheVariants.{None}
 use Rattle.refusal.specs.Order.{accepted}
 use Rattle.table.specs.declared.Row.{Row}
 use Rattle.table.specs.Rows.{cycle_of}

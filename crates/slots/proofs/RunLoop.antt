@@ -1,5 +1,6 @@
 -- A list of reports from a sound record, as the loop over it meets it.
 -- Assumes nothing.
+use Rattle.std.specs.Prelude.{Option, None}
 use mathlib.Core.Path.{◌≡◌, refl, sym, ap, ap₂, ◌∙◌}
 use mathlib.Core.Bool.{true, false}
 use mathlib.Core.List.{List, [], ◌∷◌, ◌++◌, append_assoc, append-nil}
@@ -7,9 +8,8 @@ use Prim.Native.Nat.{ℕ, ◌+◌, ◌≤◌, ◌<◌}
 use native.Mathlib.Omega.{arith}
 use native.Mathlib.Numerals.{add-one}
 use lib.ListN.{length, get_or, set, drop, length-append, drop_of_length-le}
-use lib.Seq.{drop-cons, set_out, sets, length-sets}
+use lib.Seq.{drop-cons, sets}
 use Rattle.refusal.specs.declared.Refusal.{Refusal}
-use Rattle.refusal.specs.declared.Refusal.TheVariants.{None}
 use Rattle.refusal.specs.Order.{accepted}
 use Rattle.refusal.proofs.Lent.{sets_more}
 use Rattle.refusal.proofs.Order.{Told, refused, beside_none}
@@ -19,14 +19,13 @@ use Rattle.table.specs.Rows.{used}
 use Rattle.slots.specs.declared.Record.{Record}
 use Rattle.slots.specs.declared.Stepped.{Stepped}
 use Rattle.slots.specs.OneSlot.{Work, idle, primary, alternate, what, byte_of, step_of}
-use Rattle.slots.specs.History.{work_of}
 use Rattle.slots.specs.Reports.{report_refusal, Outcome, stopped, onto, run_of}
 use Rattle.slots.specs.Answers.{slot_under}
 use Rattle.slots.specs.Turns.{Steady, RunLeaves, loss_at, lost_by}
 use Rattle.slots.proofs.SoundRecord.{Sound, table_usable, sound_if}
-use Rattle.slots.proofs.SlotActs.{InRows, allowed_row}
-use Rattle.slots.proofs.StaysSound.{what_allowed, step_sound}
-use Rattle.slots.proofs.RunFacts.{run_none, run_on, run_stops, what_byte}
+use Rattle.slots.proofs.SlotActs.{InRows}
+use Rattle.slots.proofs.StaysSound.{step_sound}
+use Rattle.slots.proofs.RunFacts.{run_none, run_on, run_stops}
 use Rattle.slots.proofs.JoinedRuns.{after}
 use Rattle.slots.proofs.Settled.{stands_sound}
 use Rattle.slots.proofs.LostRows.{by_none, by_more}
@@ -57,13 +56,6 @@ module _ (t : Table) (q : Record) (rep : ℕ) (s : Stepped) (e : s ≡ slot_unde
     unfolding slot_under
     slot_byte = ap (λ (x : Stepped). x.ran) e ∙ sym (beside_none (report_refusal (what (used t) q) rep) (byte_of (what (used t) q)) (sym slot_refusal ∙ d))
 
-    -- the byte tells what ran
-    pub slot_work : {cycle : ℕ} → Steady t cycle q → work_of s.ran ≡ what (used t) q
-    slot_work g = ap work_of slot_byte ∙ what_byte (used t) (table_usable t g.table).few q
-
-    pub slot_small : {cycle : ℕ} → Steady t cycle q → s.ran < 33
-    slot_small g = rw slot_byte (byte_few (used t) (what (used t) q) (table_usable t g.table).few (allowed_row (used t) q (what (used t) q) (what_allowed (used t) q)))
-
   pub slot_stops : Told s.refusal → accepted (report_refusal (what (used t) q) rep) ≡ false
   slot_stops p = ap accepted (sym slot_refusal) ∙ refused s.refusal p
 
@@ -93,10 +85,6 @@ going_step {t} {cycle} {reps} {q} {i} g l s e d =
       sixteen = rw n sure.sixteen;
     }
 
--- past the log's end nothing is written
-pub put_past : (log : List ℕ) (i b : ℕ) → length log ≤ i → log ≡ set log i b
-put_past log i b l = sym (set_out log i b l)
-
 -- ---- some of the slots: from the record p, where the list has come to its a-th report and `units` are lost, to the record q at the i-th
 pub record Passed (t : Table) (reps : List ℕ) (p : Record) (a units : ℕ) (old : List ℕ) (q : Record) (i lost : ℕ) (log : List ℕ) : Type 0 where
   -- the bytes of those slots
@@ -124,10 +112,6 @@ passed_join {t} {reps} {p} {a} {units} {old} {q} {i} {lost} {log} {r} {j} {more}
   loses = f.loses ∙ g.loses;
   few = omega (arith, f.few, g.few, length-append f.bytes g.bytes);
 }
-
-pub passed_size : {t : Table} {reps : List ℕ} {p : Record} {a units : ℕ} {old : List ℕ} {q : Record} {i lost : ℕ} {log : List ℕ} → Passed t reps p a units old q i lost log
-    → length log ≡ length old
-passed_size {t} {reps} {p} {a} {units} {old} f = ap length f.is_log ∙ length-sets old a f.bytes
 
 -- one slot
 module _ {t : Table} {cycle : ℕ} {reps : List ℕ} {q : Record} {i : ℕ} (g : Going t cycle reps q i) (l : i < length reps) (s : Stepped)
@@ -159,7 +143,7 @@ module _ {t : Table} {cycle : ℕ} {reps : List ℕ} {q : Record} {i : ℕ} (g :
 -- ---- the whole list, from its first report
 module _ {t : Table} {start : Record} {reps old : List ℕ} {q : Record} {i lost : ℕ} {log : List ℕ} (f : Passed t reps start 0 0 old q i lost log) where
   -- the run is over at slot i
-  gives : (why : Refusal) → run_of (used t) q (drop i reps) ≡ record { refusal = why; next = q; log = [] } → RunLeaves (run_of (used t) start reps) old why i q log
+  gives : (why : Option Refusal) → run_of (used t) q (drop i reps) ≡ record { refusal = why; next = q; log = [] } → RunLeaves (run_of (used t) start reps) old why i q log
   gives why e =
       let o : run_of (used t) start reps ≡ record { refusal = why; next = q; log = f.bytes ++ [] } = f.rest ∙ ap (after f.bytes) e in
       let b : (run_of (used t) start reps).log ≡ f.bytes = ap (λ (o : Outcome). o.log) o ∙ append-nil f.bytes in
@@ -176,7 +160,7 @@ module _ {t : Table} {start : Record} {reps old : List ℕ} {q : Record} {i lost
       gives s.refusal
       (ap (run_of (used t) q) (next_report reps i l)
       ∙ run_stops (used t) q (get_or reps i 0) (drop (i + 1) reps) (slot_stops t q (get_or reps i 0) s e p)
-      ∙ ap (λ (f : Refusal). stopped f q) (sym (slot_refusal t q (get_or reps i 0) s e)))
+      ∙ ap (λ (f : Option Refusal). stopped f q) (sym (slot_refusal t q (get_or reps i 0) s e)))
 
   module _ (u : length reps ≤ i) where
     pub ends_answer : RunLeaves (run_of (used t) start reps) old None i q log

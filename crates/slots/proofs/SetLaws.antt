@@ -3,22 +3,23 @@
 use mathlib.Core.Path.{◌≡◌, refl, sym, ap, ap₂, ◌∙◌}
 use mathlib.Core.Logic.{⊎_elim}
 use mathlib.Core.Bool.{Bool, true, false, cond}
-use mathlib.Core.List.{List}
+use mathlib.Core.List.{List, reverse}
 use Prim.Native.Nat.{ℕ, zero, suc, ◌+◌, ◌-◌, ◌*◌, ◌/◌, ◌%◌, ◌^◌, ◌≤◌, ◌<◌}
 use native.Mathlib.Omega.{arith}
 use native.Mathlib.Nat.{eq-or-lt_of_le, pow-suc}
-use borrow.Author.Tests.{eqb-true, eqb-false, eq-eqb, ne_eqb}
-use lib.Count.{count_trailing_zeros, ones, under, ones_step, ones-le, trailing_le}
+use borrow.Author.Tests.{eqb-true, eqb-false}
+use lib.Count.{count_trailing_zeros, ones, under, ones_step}
 use lib.Dec.{eqb}
-use lib.ListN.{get_or}
+use lib.ListN.{length, get_or, take}
 use lib.Pow.{pow_mono}
+use lib.Seq.{length-take-le, get_or-take}
+use Rattle.std.proofs.lemmas.List.{get_or-reverse, length-reverse, get_or_default}
 use Rattle.rule.specs.Slots.{unit, count, first_row}
 use Rattle.rule.proofs.Tests.{split}
 use Rattle.rule.proofs.FirstRow.{first_row_lem, found_none}
-use Rattle.slots.specs.declared.State.{State}
 use Rattle.slots.specs.declared.Job.{Job}
-use Rattle.slots.specs.declared.awaited.Members.{Members}
-use Rattle.slots.specs.Records.{no_job}
+use Rattle.slots.specs.declared.Awaiting.{Awaiting}
+use Rattle.slots.specs.Records.{no_job, job_at}
 use Rattle.slots.specs.OneSlot.{is_waiting, waits}
 use Rattle.slots.specs.WaitingSet.{set_from}
 use Rattle.slots.specs.Turns.{members_of}
@@ -160,62 +161,49 @@ module _ (P Q : ℕ → Bool) where
       )))
       (eq-or-lt_of_le l)
 
--- ---- as the code reads them off
-pub zeros_fit : (x : ℕ) → count_trailing_zeros 16 x < 256
-zeros_fit x = omega (arith, trailing_le 16 x)
-
-pub row_fits : (x : ℕ) → count_trailing_zeros 16 x + 1 < 256
-row_fits x = omega (arith, trailing_le 16 x)
-
-pub low_empty : (x : ℕ) → x ≡ 0 → 0 ≡ cond (eqb x 0) 0 (count_trailing_zeros 16 x + 1)
-low_empty x e = simp (eq-eqb x 0 e)
-
-pub low_some : (x : ℕ) → (x ≡ 0 → ⊥) → count_trailing_zeros 16 x + 1 ≡ cond (eqb x 0) 0 (count_trailing_zeros 16 x + 1)
-low_some x e = simp (ne_eqb x 0 e)
-
-pub ones_fit : (js : List Job) (n x : ℕ) → n ≤ 16 → x ≡ set_from (waits js) 0 n → ones x < 256
-ones_fit js n x l e = omega (arith, ones-le 16 x (omega (arith, e, set_small (waits js) 0 n, pow_mono l)))
-
--- ---- the set as the code builds it, from the highest place down to place i
-pub record Built (js : List Job) (n i x : ℕ) : Type 0 where
-  pub within : i ≤ n
+-- ---- the set as the code builds it, from the highest of n places down: the last k are in it
+pub record Built (js : List Job) (n k x : ℕ) : Type 0 where
   pub few : n ≤ 16
-  pub is : x ≡ set_from (waits js) i (n - i)
+  pub within : k ≤ n
+  pub is : x ≡ set_from (waits js) (n - k) k
 
-pub built_start : (js : List Job) (n : ℕ) → n ≤ 16 → Built js n n 0
+pub built_start : (js : List Job) (n : ℕ) → n ≤ 16 → Built js n 0 0
 unfolding set_from
-built_start js n l = record { within = omega arith; few = l; is = (let z : n - n ≡ 0 = omega arith in rw z refl) }
+built_start js n l = record { few = l; within = omega arith; is = refl }
 
--- there is room for one place more
-pub built_room : {js : List Job} {n i x : ℕ} → Built js n i x → 0 < i → x < 32768
-built_room {js} {n} {i} {x} g l =
-    omega (arith, g.is, set_small (waits js) i (n - i), pow_mono below)
-  where
-    below : n - i ≤ 15
-    below = omega (arith, g.within, g.few)
+module _ {js : List Job} {n k x : ℕ} (g : Built js n k x) (full : n ≤ length js) where
+  abbrev down : List Job
+  down = reverse (take n js)
 
-pub joined_room : (state : State) (x b : ℕ) → x < 32768 → b ≡ unit (is_waiting state) → b + 2 * x < 65536
-joined_room state x b l e = omega (arith, e, unit_few (is_waiting state))
+  size : length down ≡ n
+  size = length-reverse (take n js) ∙ length-take-le n js full
 
-pub built_step : {js : List Job} {n i x : ℕ} → Built js n i x → 0 < i → (y : ℕ) → y ≡ unit (is_waiting (get_or js (i - 1) no_job).state) + 2 * x → Built js n (i - 1) y
-unfolding set_from
-built_step {js} {n} {i} {x} g l y e =
-    let u : n - (i - 1) ≡ suc (n - i) = omega (arith, g.within) in
-    let v : suc (i - 1) ≡ i = omega arith in
-    record {
-      within = omega (arith, g.within);
-      few = g.few;
-      is = e ∙ ap (λ (z : ℕ). unit (is_waiting (get_or js (i - 1) no_job).state) + 2 * z) g.is ∙ sym (rw (u, v) refl);
-    }
+  module _ (l : k < length down) where
+    -- there is room for one place more
+    pub built_room : x < 32768
+    built_room = let most : k ≤ 15 = omega (arith, g.few, size) in omega (arith, g.is, set_small (waits js) (n - k) k, pow_mono most)
 
-pub built_end : {js : List Job} {n i x : ℕ} → Built js n i x → i ≤ 0 → x ≡ set_from (waits js) 0 n
-built_end {js} {n} {i} {x} g l =
-    let z : i ≡ 0 = omega arith in
-    let y : n - 0 ≡ n = omega arith in
-    g.is ∙ rw (z, y) refl
+    is_next : (j : Job) → j ≡ get_or down k j → j ≡ job_at js (n - (k + 1))
+    is_next j e =
+        let p : length (take n js) - 1 - k ≡ n - (k + 1) = omega (arith, length-take-le n js full) in
+        e ∙ get_or-reverse (take n js) k j (omega (arith, size, length-take-le n js full)) ∙ rw p (get_or-take n js (n - (k + 1)) j (omega (arith, size)) ∙ get_or_default js (n - (k + 1)) j no_job (omega (arith, size)))
+
+    pub built_step : (j : Job) → j ≡ get_or down k j → (y : ℕ) → y ≡ unit (is_waiting j.state) + 2 * x → Built js n (k + 1) y
+    unfolding set_from
+    built_step j is y e =
+        let one : k + 1 ≡ suc k = omega arith in
+        let next : suc (n - (k + 1)) ≡ n - k = omega (arith, size) in
+        record {
+          few = g.few;
+          within = omega (arith, size);
+          is =
+              e
+              ∙ ap₂ (λ (i : Job) (z : ℕ). unit (is_waiting i.state) + 2 * z) (is_next j is) g.is
+              ∙ sym (ap (set_from (waits js) (n - (k + 1))) one ∙ ap (λ (i : ℕ). unit (waits js (n - (k + 1))) + 2 * set_from (waits js) i k) next);
+        }
 
 pub members_are : (js : List Job) (n x row many : ℕ) → n ≤ 16 → x ≡ set_from (waits js) 0 n → row ≡ cond (eqb x 0) 0 (count_trailing_zeros 16 x + 1) → many ≡ ones x
-    → ◌≡◌ {A = Members} (record { set = x; row = row; count = many }) (members_of js n)
+    → ◌≡◌ {A = Awaiting} (record { set = x; row = row; count = many }) (members_of js n)
 unfolding members_of
 members_are js n x row many l e f g =
     let a : row ≡ first_row (waits js) n = f ∙ lowest_row (waits js) n x l e in

@@ -1,30 +1,26 @@
 -- One slot of a sound record, as the code meets it.
 -- Assumes nothing.
+use Rattle.refusal.specs.Order.{beside, verdict}
+use Rattle.std.specs.Prelude.{None, Err, Ok, Some}
 use mathlib.Core.Path.{◌≡◌, refl, sym, ap, ap₂, ◌∙◌, subst}
-use mathlib.Core.List.{List}
 use Prim.Native.Nat.{ℕ, zero, suc, ◌≤◌, ◌<◌}
 use native.Mathlib.Nat.{le_of_dvd}
 use native.Mathlib.Omega.{arith}
 use lib.ListN.{length}
 use Rattle.refusal.specs.declared.Refusal.{Refusal}
-use Rattle.refusal.specs.declared.Refusal.TheVariants.{None}
-use Rattle.refusal.proofs.Order.{Told, refused, beside_refused, beside_none}
+use Rattle.refusal.proofs.Order.{beside_none, ok_none, err_some}
 use Rattle.table.specs.declared.Table.{Table}
 use Rattle.table.specs.Rows.{used, row_at, cycle_of}
 use Rattle.table.proofs.Cycle.{cycle_multiple}
 use Rattle.table.proofs.Check.{used_count}
 use Rattle.rule.specs.Slots.{first_row}
-use Rattle.reserve.specs.declared.Standing.{Standing}
-use Rattle.reserve.specs.Standing.{from_clock}
 use Rattle.reserve.specs.Turns.{Ready}
 use Rattle.reserve.proofs.Verdict.{table_rows, table_accepted}
-use Rattle.slots.specs.declared.Job.{Job}
 use Rattle.slots.specs.declared.Record.{Record}
 use Rattle.slots.specs.declared.Stepped.{Stepped}
-use Rattle.slots.specs.declared.awaited.Members.{Members}
+use Rattle.slots.specs.declared.Awaiting.{Awaiting}
 use Rattle.slots.specs.Records.{job_at}
-use Rattle.slots.specs.Sound.{lefts}
-use Rattle.slots.specs.OneSlot.{Work, idle, primary, alternate, reserved, unreserved, byte_of, holder_at, lowest_waiting, what, worked, renewed, next_clock, step_by, step_of, waits}
+use Rattle.slots.specs.OneSlot.{Work, idle, primary, alternate, reserved, unreserved, byte_of, holder_at, lowest_waiting, what, step_by, step_of, waits}
 use Rattle.slots.specs.Reports.{report_refusal}
 use Rattle.slots.specs.History.{work_of}
 use Rattle.slots.specs.Answers.{slot_under}
@@ -34,16 +30,6 @@ use Rattle.slots.proofs.SoundRecord.{Usable, table_usable, Sound, sound_at}
 use Rattle.slots.proofs.SlotActs.{InRows, the_holder, allowed_row}
 use Rattle.slots.proofs.StaysSound.{what_allowed}
 use Rattle.slots.proofs.RunFacts.{what_byte}
-use Rattle.slots.proofs.Admittance.{held_now}
-
--- ---- the next record
-pub record_next : (q : Record) (t : Table) (cycle c ran report : ℕ) (done after : List Job) → Ready t cycle
-    → c ≡ next_clock cycle q.clock → done ≡ worked (work_of ran) report (used t) q.jobs → after ≡ renewed c (used t) done
-    → ◌≡◌ {A = Record} (record { clock = c; jobs = after }) (step_by (used t) q (work_of ran) report)
-unfolding step_by
-record_next q t cycle c ran report done after r e f g =
-    let h : c ≡ next_clock (cycle_of (used t)) q.clock = e ∙ ap (λ (L : ℕ). next_clock L q.clock) r.is_cycle in
-    simp (g, f, h)
 
 -- ---- a sound record of an accepted table
 module _ {t : Table} {cycle : ℕ} {q : Record} (g : Steady t cycle q) where
@@ -71,10 +57,6 @@ module _ {t : Table} {cycle : ℕ} {q : Record} (g : Steady t cycle q) where
       go zero e = omega arith
       go (suc i) e = omega (arith, (the_holder (used t) q s i e).0, rows.few)
 
-  -- the sweep from the clock tells who holds the clock's slot
-  pub stands_held : length q.jobs ≡ 16 → (left : List ℕ) → left ≡ lefts q.jobs → (s : Standing) → s ≡ from_clock t q.clock left → s.holder ≡ holder_at (used t) q q.clock
-  stands_held e left l s h = held_now t q left s (table_rows t g.table) (stands_sound e).ticks l h
-
   -- ---- the entry that the slot's unit moves is a row's, and its primary has run no more units than the cycle has slots
   module _ (full : length t.rows ≡ 16) where
     in_rows : (w : Work) → InRows (used t) w → entry_of w < length (used t)
@@ -95,12 +77,12 @@ module _ {t : Table} {cycle : ℕ} {q : Record} (g : Steady t cycle q) where
 
   -- ---- the byte that runs, from the holder and the waiting rows
   module _ (sixteen : length q.jobs ≡ 16) (full : length t.rows ≡ 16) (holder : ℕ) (held : holder ≡ holder_at (used t) q q.clock)
-      (m : Members) (found : m ≡ members_of q.jobs t.n) where
+      (m : Awaiting) (found : m ≡ members_of q.jobs t.n) where
     pub byte_is : (ran : ℕ) → ran ≡ byte_of (reserved holder (unreserved m.row)) → ran ≡ byte_of (what (used t) q)
     unfolding what lowest_waiting members_of
     byte_is ran e =
         let n : length (used t) ≡ t.n = used_count t full stands_few in
-        let r : m.row ≡ first_row (waits q.jobs) (length (used t)) = ap (λ (x : Members). x.row) found ∙ rw n refl in
+        let r : m.row ≡ first_row (waits q.jobs) (length (used t)) = ap (λ (x : Awaiting). x.row) found ∙ rw n refl in
         e ∙ ap₂ (λ (h k : ℕ). byte_of (reserved h (unreserved k))) held r
 
     pub runs_what : (ran : ℕ) → ran ≡ byte_of (reserved holder (unreserved m.row)) → work_of ran ≡ what (used t) q
@@ -114,22 +96,20 @@ module _ {t : Table} {cycle : ℕ} {q : Record} (g : Steady t cycle q) where
         small = subst (λ (w : Work). (job_at q.jobs (entry_of w)).run < 65535) (sym (runs_what ran is)) (work_small full sixteen);
       }
 
-      module _ (report : ℕ) (f : Refusal) (told : f ≡ report_refusal (work_of ran) report) where
-        is_refusal : f ≡ report_refusal (what (used t) q) report
-        is_refusal = told ∙ ap (λ (w : Work). report_refusal w report) (runs_what ran is)
+      module _ (report : ℕ) where
+        is_refusal : report_refusal (what (used t) q) report ≡ report_refusal (work_of ran) report
+        is_refusal = ap (λ (w : Work). report_refusal w report) (sym (runs_what ran is))
 
-        pub settled_none : f ≡ None → (next : Record) → next ≡ step_by (used t) q (work_of ran) report
+        pub settled_none : (u : Unit) → verdict (report_refusal (work_of ran) report) ≡ Ok u → (next : Record) → next ≡ step_by (used t) q (work_of ran) report
             → ◌≡◌ {A = Stepped} (record { refusal = None; next = next; ran = ran }) (slot_under (report_refusal (what (used t) q) report) (used t) q report)
         unfolding slot_under step_of
-        settled_none z next e =
+        settled_none u z next e =
             let n : next ≡ step_by (used t) q (what (used t) q) report = e ∙ ap (λ (w : Work). step_by (used t) q w report) (runs_what ran is) in
-            let h : report_refusal (what (used t) q) report ≡ None = sym is_refusal ∙ z in
+            let h : report_refusal (what (used t) q) report ≡ None = is_refusal ∙ ok_none _ tt u z in
             rw (h, n)
             (ap (λ (b : ℕ). record { refusal = None; next = step_by (used t) q (what (used t) q) report; ran = b }) (byte_is ran is ∙ beside_none None (byte_of (what (used t) q)) refl))
 
-        pub settled_refused : Told f → ◌≡◌ {A = Stepped} (record { refusal = f; next = q; ran = 0 }) (slot_under (report_refusal (what (used t) q) report) (used t) q report)
-        unfolding slot_under
-        settled_refused z =
-            rw (← is_refusal)
-            (let n = refused f z in
-            rw n (ap (λ (b : ℕ). record { refusal = f; next = q; ran = b }) (beside_refused f (byte_of (what (used t) q)) z)))
+        pub settled_refused : (f : Refusal) → verdict (report_refusal (work_of ran) report) ≡ Err f
+            → ◌≡◌ {A = Stepped} (record { refusal = Some f; next = q; ran = 0 }) (slot_under (report_refusal (what (used t) q) report) (used t) q report)
+        unfolding slot_under beside
+        settled_refused f z = rw (is_refusal ∙ err_some _ tt f z) refl

@@ -1,5 +1,6 @@
 -- What the refusals leave of the rows, and what a sound record has, as facts.
 -- Assumes nothing.
+use Rattle.std.specs.Prelude.{None}
 use mathlib.Core.Path.{◌≡◌, sym, ap, ◌∙◌}
 use mathlib.Core.Bool.{Bool, true, not, ◌&&◌}
 use mathlib.Core.List.{List}
@@ -8,7 +9,7 @@ use native.Mathlib.Omega.{arith}
 use borrow.Author.Tests.{eqb-true, eq-eqb, ltb-true, ltb-false, lt-ltb, not-false}
 use lib.Dec.{ltb, eqb}
 use lib.ListN.{length, length-take}
-use Rattle.refusal.specs.declared.Refusal.TheVariants.{None, Tight, Record as NotSound}
+use Rattle.refusal.specs.declared.Refusal.TheVariants.{Tight, Record as NotSound}
 use Rattle.refusal.specs.Order.{given}
 use Rattle.refusal.proofs.Order.{passes, none_first, none_later, given_not}
 use Rattle.table.specs.declared.Row.{Row}
@@ -38,7 +39,7 @@ pub table_usable : (t : Table) → table_refusal t ≡ None → Usable (used t)
 unfolding table_refusal used
 table_usable t z =
     let a : Accepted t = table_accepted t z in
-    let rule = given_not (ltb 0 (tight_of (used t))) (Tight (tight_of (used t))) (omega arith) (none_later _ _ z) in
+    let rule = given_not (ltb 0 (tight_of (used t))) (Tight (tight_of (used t))) (none_later _ _ z) in
     record {
       good = a.good;
       few = omega (arith, a.few, length-take t.n t.rows);
@@ -90,7 +91,7 @@ module _ (t : Table) (q : Record) where
 
   pub none_sound : record_refusal t q ≡ None → sound (used t) q ≡ true
   unfolding record_refusal
-  none_sound z = not-false (sound (used t) q) (given_not (not (sound (used t) q)) NotSound (omega arith) (none_later _ _ z))
+  none_sound z = not-false (sound (used t) q) (given_not (not (sound (used t) q)) NotSound (none_later _ _ z))
 
   pub sound_none : table_refusal t ≡ None → sound (used t) q ≡ true → record_refusal t q ≡ None
   unfolding record_refusal

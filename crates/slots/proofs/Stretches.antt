@@ -1,5 +1,7 @@
 -- A stretch of slots, in which no window opens before its end and only its last slot may be a done: the loop over it keeps the buffer true without looking at it.
 -- Assumes nothing.
+use Rattle.refusal.specs.declared.Refusal.{Refusal}
+use Rattle.std.specs.Prelude.{None, Ok, Err, Some}
 use mathlib.Core.Path.{◌≡◌, refl, sym, ap, ap₂, ◌∙◌, subst}
 use mathlib.Core.Logic.{◌⊎◌, inl, inr, ⊎_elim}
 use mathlib.Core.Bool.{true, false, cond, not, ◌&&◌}
@@ -10,9 +12,9 @@ use borrow.Author.Tests.{eqb-true, eqb-false, eq-eqb, ne_eqb}
 use lib.Dec.{eqb}
 use lib.ListN.{length, get_or, set, length-set}
 use lib.Seq.{get_or-set_same, get_or-set_other, ext_get_or}
-use Rattle.refusal.specs.declared.Refusal.TheVariants.{None}
-use Rattle.refusal.specs.Numbers.{number_of}
+use Rattle.refusal.specs.Numbers.{number_told}
 use Rattle.refusal.specs.Order.{or_else}
+use Rattle.refusal.proofs.Order.{ok_none, ok_figure, err_some}
 use Rattle.table.specs.declared.Row.{Row}
 use Rattle.table.specs.declared.Table.{Table}
 use Rattle.table.specs.Rows.{used, blank, row_at, cycle_of}
@@ -22,7 +24,7 @@ use Rattle.rule.specs.Slots.{first_row}
 use Rattle.rule.proofs.Tests.{split, side, false_if}
 use Rattle.rule.proofs.FirstRow.{row_first}
 use Rattle.reserve.specs.Tables.{ends}
-use Rattle.reserve.proofs.Ready.{few, size, row_is, cycle_fits}
+use Rattle.reserve.proofs.Ready.{few, size, row_is}
 use Rattle.reserve.proofs.Tables.{AllGood}
 use Rattle.slots.specs.declared.State.TheVariants.{Waiting}
 use Rattle.slots.specs.declared.Job.{Job}
@@ -50,7 +52,7 @@ use Rattle.slots.proofs.Settled.{stands_ready, stands_sound, stands_holder, work
 use Rattle.slots.proofs.UnitMoves.{moves_worked, moves_lost, moves_set, moves_stay}
 use Rattle.slots.proofs.DoneFrees.{done_frees}
 use Rattle.slots.proofs.LostBound.{open_units}
-use Rattle.slots.proofs.RunLoop.{Going, going_step, Passed, passed_join, passed_one, opened, slot_next, slot_byte}
+use Rattle.slots.proofs.RunLoop.{Going, going_step, Passed, passed_join, passed_one, slot_next, slot_byte}
 
 -- ---- slots at which no window opens
 quiet_none : (rs : List Row) → AllGood rs → (cycle c opens : ℕ) → Quiet rs cycle c opens → (i s : ℕ) → i < length rs → c < s → s < opens → starts (row_at rs i) s ≡ false
@@ -124,12 +126,6 @@ module _ {t : Table} {cycle : ℕ} {reps log₀ kept₀ : List ℕ} {jobs₀ : L
     pub stretch_ticks : clock < cycle
     stretch_ticks = omega (arith, before_opening, g.quiet.within)
 
-    pub stretch_clock : clock + 1 < 65536
-    stretch_clock = omega (arith, stretch_ticks, cycle_fits (stands_ready g.going.steady))
-
-    pub stretch_less : length reps - (i + 1) < length reps - i
-    stretch_less = omega (arith, stretch_report)
-
     pub stretch_byte : clock < length kept
     stretch_byte = omega (arith, stretch_ticks, g.size, g.room)
 
@@ -184,15 +180,19 @@ module _ {t : Table} {cycle : ℕ} {reps log₀ kept₀ : List ℕ} {jobs₀ : L
     unfolding what
     is_work = ap₂ (λ (h k : ℕ). reserved h (unreserved k)) is_holder is_lowest
 
-    module _ (d : Turn) (e : d ≡ turn_of (reserved (get_or kept clock 0) (unreserved (lowest_in waiting))) rep) where
+    -- the report is refused
+    pub stretch_refused : (f : Refusal) → turn_of (reserved (get_or kept clock 0) (unreserved (lowest_in waiting))) rep ≡ Err f → report_refusal (what rs p) rep ≡ Some f
+    stretch_refused f e = err_some (report_refusal (what rs p) rep) _ f (ap (λ (v : Work). turn_of v rep) (sym is_work) ∙ e)
+
+    module _ (d : Turn) (e : turn_of (reserved (get_or kept clock 0) (unreserved (lowest_in waiting))) rep ≡ Ok d) where
       abbrev w : Work
       w = what rs p
 
-      is_turn : d ≡ turn_of w rep
-      is_turn = e ∙ ap (λ (v : Work). turn_of v rep) is_work
+      told : turn_of w rep ≡ Ok d
+      told = ap (λ (v : Work). turn_of v rep) (sym is_work) ∙ e
 
-      is_refusal : d.refusal ≡ report_refusal w rep
-      is_refusal = ap (λ (x : Turn). x.refusal) is_turn
+      is_turn : d ≡ record { ran = byte_of w; at = entry_of w }
+      is_turn = sym (ok_figure (report_refusal w rep) _ d told)
 
       is_byte : d.ran ≡ byte_of w
       is_byte = ap (λ (x : Turn). x.ran) is_turn
@@ -228,13 +228,13 @@ module _ {t : Table} {cycle : ℕ} {reps log₀ kept₀ : List ℕ} {jobs₀ : L
       abbrev pub slot : Stepped
       slot = slot_under (report_refusal w rep) rs p rep
 
-      pub stretch_slot : d.refusal ≡ slot.refusal
-      unfolding slot_under
-      stretch_slot = is_refusal
+      module _ (m : Moved) (em : m ≡ moved_of (work_of d.ran) rep (get_or t.rows d.at blank) job waiting d.at) where
+        accepted_report : report_refusal w rep ≡ None
+        accepted_report = ok_none (report_refusal w rep) _ d told
 
-      module _ (none : d.refusal ≡ None) (m : Moved) (em : m ≡ moved_of (work_of d.ran) rep (get_or t.rows d.at blank) job waiting d.at) where
         accepted_slot : slot.refusal ≡ None
-        accepted_slot = sym stretch_slot ∙ none
+        unfolding slot_under
+        accepted_slot = accepted_report
 
         is_moved : m ≡ moved_of w rep (row_at rs d.at) job waiting d.at
         is_moved = em ∙ ap₂ (λ (v : Work) (r : Row). moved_of v rep r job waiting d.at) tells (row_is (stands_ready now.steady) g.full d.at row)
@@ -294,9 +294,6 @@ module _ {t : Table} {cycle : ℕ} {reps log₀ kept₀ : List ℕ} {jobs₀ : L
             (subst (λ (x : Record). Passed t reps p i lost log x (i + 1) (lost + m.lost) (set log i slot.ran)) is_next
             (passed_one now stretch_report slot refl accepted_slot m.lost is_lost lost log))
 
-        pub stretch_lost : lost + m.lost < 18446744073709551616
-        stretch_lost = omega (arith, opened now stretch_report slot refl accepted_slot m.lost is_lost, passed_now.few, passed_now.count, g.few, g.short, stretch_report)
-
         -- ---- the buffer
         byte_other : (s : ℕ) → clock < s → get_or (set kept clock 0) s 0 ≡ get_or kept s 0
         byte_other s u = get_or-set_other kept clock s 0 0 (λ z. omega arith)
@@ -315,15 +312,15 @@ module _ {t : Table} {cycle : ℕ} {reps log₀ kept₀ : List ℕ} {jobs₀ : L
         done_at k z = ⊎_elim (λ (h : eqb rep 1 ≡ true). yes h) (λ (h : eqb rep 1 ≡ false). absurd (omega (arith, z, ef, ap (λ b. cond b d.ran 0) h))) (split (eqb rep 1))
           where
             which : (v : Work) → report_refusal v 1 ≡ None → byte_of v ≡ suc k → v ≡ primary k
-            which idle f b = absurd (omega (arith, ap number_of f))
+            which idle f b = absurd (omega (arith, ap number_told f))
             which (primary n) f b = ap primary (omega (arith, b))
-            which (alternate n) f b = absurd (omega (arith, ap number_of f))
+            which (alternate n) f b = absurd (omega (arith, ap number_told f))
 
             yes : eqb rep 1 ≡ true → (rep ≡ 1) × (w ≡ primary k)
             yes h =
                 let one : rep ≡ 1 = eqb-true rep 1 h in
                 let byte : byte_of w ≡ suc k = sym is_byte ∙ sym (ef ∙ ap (λ b. cond b d.ran 0) h) ∙ z in
-                (one, which w (ap (report_refusal w) (sym one) ∙ sym is_refusal ∙ none) byte)
+                (one, which w (ap (report_refusal w) (sym one) ∙ accepted_report) byte)
 
         no_done : fin ≡ 0 → (k : ℕ) → w ≡ primary k → rep ≡ 1 → ⊥
         unfolding byte_of

@@ -1,6 +1,6 @@
 -- What a slot's unit does to its one entry is what it does to the record: the entries, the waiting set and what is lost.
 -- Assumes nothing.
-use mathlib.Core.Path.{◌≡◌, refl, sym, ap, ◌∙◌, subst}
+use mathlib.Core.Path.{◌≡◌, refl, sym, ap, ◌∙◌}
 use mathlib.Core.Logic.{⊎_elim}
 use mathlib.Core.Bool.{Bool, true, false, cond, not, ◌&&◌}
 use mathlib.Core.List.{List}
@@ -82,14 +82,8 @@ moves_stay (alternate k) rep r j a h = fallen j.state h
     fallen Failed e = refl
     fallen Done e = refl
 
--- ---- as one slot's code meets it
+-- ---- as one slot's code has it
 module _ (t : Table) (js : List Job) (ran : ℕ) (g : Workable t js ran) (at : ℕ) (e : at ≡ entry_of (work_of ran)) where
-  pub unit_place : at < 16
-  unit_place = omega (arith, e, g.few, g.row)
-
-  pub unit_small : (get_or js at no_job).run < 65535
-  unit_small = subst (λ (n : ℕ). (get_or js n no_job).run < 65535) (sym e) g.small
-
   pub unit_moved : (report : ℕ) (j : Job) → j ≡ moved_by (work_of ran) report (get_or t.rows at blank) (get_or js at no_job) → set js at j ≡ worked (work_of ran) report (used t) js
   unit_moved report j h =
       ap (set js at) (h ∙ ap (λ (r : Row). moved_by (work_of ran) report r (get_or js at no_job)) (row_used t at (omega (arith, e, g.row))))

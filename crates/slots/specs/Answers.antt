@@ -1,9 +1,9 @@
 -- The answers of the question, of one slot and of a list of reports, refused ones too.
 -- Assumes nothing: these are definitions.
-use Rattle.std.specs.Prelude.{ℕ, ◌-◌, cond, ◌||◌, List, ◌++◌, ltb, length, drop, replicate}
+use Rattle.std.specs.Prelude.{Option, Result, ℕ, ◌-◌, cond, ◌||◌, List, ◌++◌, ltb, length, drop, replicate}
 use Rattle.refusal.specs.declared.Refusal.{Refusal}
 use Rattle.refusal.specs.declared.Refusal.TheVariants.{Room}
-use Rattle.refusal.specs.Order.{accepted, given, or_else, beside}
+use Rattle.refusal.specs.Order.{accepted, given, or_else, answer, beside}
 use Rattle.refusal.specs.Lent.{overlaid}
 use Rattle.table.specs.declared.Row.{Row}
 use Rattle.table.specs.declared.Table.{Table}
@@ -11,7 +11,6 @@ use Rattle.table.specs.Rows.{used, cycle_of}
 use Rattle.rule.specs.Sweep.{holders}
 use Rattle.reserve.specs.Tables.{ends}
 use Rattle.slots.specs.declared.Record.{Record}
-use Rattle.slots.specs.declared.Asked.{Asked}
 use Rattle.slots.specs.declared.Stepped.{Stepped}
 use Rattle.slots.specs.declared.Ran.{Ran}
 use Rattle.slots.specs.Sound.{claims_of, record_refusal}
@@ -19,12 +18,12 @@ use Rattle.slots.specs.OneSlot.{what, byte_of, step_of}
 use Rattle.slots.specs.Reports.{report_refusal, Outcome, stopped, run_of}
 
 -- ---- the question: 'what runs at the clock, as the log's byte and without a report'; 1 to 7, then 9
-unfoldable pub asked_of : Table → Record → Asked
-asked_of t q = record { refusal = record_refusal t q; ran = beside (record_refusal t q) (byte_of (what (used t) q)) }
+unfoldable pub asked_of : Table → Record → Result ℕ Refusal
+asked_of t q = answer (record_refusal t q) (byte_of (what (used t) q))
 
 -- ---- one slot
 -- with the refusal f: beside one, the record given and 0
-unfoldable pub slot_under : Refusal → List Row → Record → ℕ → Stepped
+unfoldable pub slot_under : Option Refusal → List Row → Record → ℕ → Stepped
 slot_under f rs q rep = record { refusal = f; next = cond (accepted f) (step_of rs q rep) q; ran = beside f (byte_of (what rs q)) }
 
 -- 1 to 7, 9, then 10 before 11
@@ -33,7 +32,7 @@ stepped_by t q rep = slot_under (or_else (record_refusal t q) (report_refusal (w
 
 -- ---- a list of reports, with a lent log that held `old` and a lent buffer that held `kept`
 -- 1 to 7, 9, then 8: 'The log needs as many bytes as there are reports.', and '8 also when that buffer is shorter than the cycle'
-unfoldable pub entry_refusal : Table → Record → (reps old kept : List ℕ) → Refusal
+unfoldable pub entry_refusal : Table → Record → (reps old kept : List ℕ) → Option Refusal
 entry_refusal t q reps old kept = or_else (record_refusal t q) (given (ltb (length old) (length reps) || ltb (length kept) (cycle_of (used t))) Room)
 
 -- 'then, slot by slot, 10 before 11'

@@ -1,7 +1,6 @@
 -- The reservations that a run keeps in a lent buffer: what the buffer holds, before and after a refill. No promise names these.
 -- Assumes nothing: these are definitions.
-use Rattle.std.specs.Prelude.{◌≡◌, Bool, not, cond, ◌||◌, List, ℕ, suc, ◌-◌, ◌≤◌, ◌<◌, leb, eqb, get_or, length}
-use Rattle.refusal.specs.declared.Refusal.TheVariants.{None}
+use Rattle.std.specs.Prelude.{None, ◌≡◌, Bool, not, cond, ◌||◌, List, ℕ, suc, ◌-◌, ◌≤◌, ◌<◌, leb, eqb, get_or, length}
 use Rattle.table.specs.declared.Row.{Row}
 use Rattle.table.specs.Rows.{cycle_of}
 use Rattle.table.specs.Windows.{window_end}

@@ -1,9 +1,9 @@
 -- When each refusal at a record is given, in the words of document 01's table 'Numbers of refusal' and of its order: 'The first that applies is given, and a later one only if no
 -- earlier one applies.' The chain of tests that the code meets is not in it. Rows are counted from 0 here: row i is document 01's row i + 1.
 -- Assumes nothing: these are definitions.
-use Rattle.std.specs.Prelude.{◌≡◌, ◌⊎◌, List, ℕ, ◌-◌, ◌≤◌, ◌<◌, length}
+use Rattle.std.specs.Prelude.{Option, Some, None, ◌≡◌, ◌⊎◌, List, ℕ, ◌-◌, ◌≤◌, ◌<◌, length}
 use Rattle.refusal.specs.declared.Refusal.{Refusal}
-use Rattle.refusal.specs.declared.Refusal.TheVariants.{None, Empty, Many, Zero, Long, Order, Cycle, Tight, Room, Report, Stray, Size, Version, Dosing, Spans}
+use Rattle.refusal.specs.declared.Refusal.TheVariants.{Empty, Many, Zero, Long, Order, Cycle, Tight, Room, Report, Stray, Size, Version, Dosing, Spans}
 use Rattle.refusal.specs.declared.Refusal.TheVariants.{Record as NotSound}
 use Rattle.table.specs.declared.Row.{Row}
 use Rattle.table.specs.declared.Table.{Table}
@@ -51,30 +51,30 @@ pub record SoundAt (rs : List Row) (q : Record) : Type 0 where
 
 -- ---- one after the other
 -- 'The first that applies is given, and a later one only if no earlier one applies.' f is an earlier one, or no earlier one applies and f is a later one
-abbrev pub Then : (Earlier Later : Refusal → Type 0) → Refusal → Type 0
+abbrev pub Then : (Earlier Later : Option Refusal → Type 0) → Option Refusal → Type 0
 Then Earlier Later f = (Earlier f × (f ≡ None → ⊥)) ⊎ (Earlier None × Later f)
 
 -- ---- at a record: the question, the waiting set
-unfoldable pub RecordGives : Table → Record → Refusal → Type 0
+unfoldable pub RecordGives : Table → Record → Option Refusal → Type 0
 RecordGives t q None = TableGives t None × SoundAt (used t) q
 -- 9, after 1 to 7: 'the record isn't sound'
-RecordGives t q NotSound = TableGives t None × (SoundAt (used t) q → ⊥)
+RecordGives t q (Some NotSound) = TableGives t None × (SoundAt (used t) q → ⊥)
 -- 1 to 7
-RecordGives t q Empty = TableGives t Empty
-RecordGives t q Many = TableGives t Many
-RecordGives t q (Zero k) = TableGives t (Zero k)
-RecordGives t q (Long k) = TableGives t (Long k)
-RecordGives t q (Order k) = TableGives t (Order k)
-RecordGives t q Cycle = TableGives t Cycle
-RecordGives t q (Tight k) = TableGives t (Tight k)
+RecordGives t q (Some Empty) = TableGives t (Some Empty)
+RecordGives t q (Some Many) = TableGives t (Some Many)
+RecordGives t q (Some (Zero k)) = TableGives t (Some (Zero k))
+RecordGives t q (Some (Long k)) = TableGives t (Some (Long k))
+RecordGives t q (Some (Order k)) = TableGives t (Some (Order k))
+RecordGives t q (Some Cycle) = TableGives t (Some Cycle)
+RecordGives t q (Some (Tight k)) = TableGives t (Some (Tight k))
 -- the others are not about a record
-RecordGives t q Room = ⊥
-RecordGives t q Report = ⊥
-RecordGives t q Stray = ⊥
-RecordGives t q Size = ⊥
-RecordGives t q Version = ⊥
-RecordGives t q Dosing = ⊥
-RecordGives t q Spans = ⊥
+RecordGives t q (Some Room) = ⊥
+RecordGives t q (Some Report) = ⊥
+RecordGives t q (Some Stray) = ⊥
+RecordGives t q (Some Size) = ⊥
+RecordGives t q (Some Version) = ⊥
+RecordGives t q (Some Dosing) = ⊥
+RecordGives t q (Some Spans) = ⊥
 
 -- ---- one slot
 -- the slot ran a primary
@@ -82,29 +82,29 @@ abbrev pub RanPrimary : Work → Type 0
 RanPrimary w = (k : ℕ) × (w ≡ primary k)
 
 -- a report for a slot that ran w
-unfoldable pub ReportGives : Work → ℕ → Refusal → Type 0
+unfoldable pub ReportGives : Work → ℕ → Option Refusal → Type 0
 ReportGives w rep None = (rep ≡ 0) ⊎ (((rep ≡ 1) ⊎ (rep ≡ 2)) × RanPrimary w)
 -- 10: 'a report is over 2'
-ReportGives w rep Report = 2 < rep
+ReportGives w rep (Some Report) = 2 < rep
 -- 11: 'report 1 or 2 for a slot that ran no primary'
-ReportGives w rep Stray = ((rep ≡ 1) ⊎ (rep ≡ 2)) × (RanPrimary w → ⊥)
+ReportGives w rep (Some Stray) = ((rep ≡ 1) ⊎ (rep ≡ 2)) × (RanPrimary w → ⊥)
 -- the others are not about a report
-ReportGives w rep Empty = ⊥
-ReportGives w rep Many = ⊥
-ReportGives w rep (Zero k) = ⊥
-ReportGives w rep (Long k) = ⊥
-ReportGives w rep (Order k) = ⊥
-ReportGives w rep Cycle = ⊥
-ReportGives w rep (Tight k) = ⊥
-ReportGives w rep Room = ⊥
-ReportGives w rep NotSound = ⊥
-ReportGives w rep Size = ⊥
-ReportGives w rep Version = ⊥
-ReportGives w rep Dosing = ⊥
-ReportGives w rep Spans = ⊥
+ReportGives w rep (Some Empty) = ⊥
+ReportGives w rep (Some Many) = ⊥
+ReportGives w rep (Some (Zero k)) = ⊥
+ReportGives w rep (Some (Long k)) = ⊥
+ReportGives w rep (Some (Order k)) = ⊥
+ReportGives w rep (Some Cycle) = ⊥
+ReportGives w rep (Some (Tight k)) = ⊥
+ReportGives w rep (Some Room) = ⊥
+ReportGives w rep (Some NotSound) = ⊥
+ReportGives w rep (Some Size) = ⊥
+ReportGives w rep (Some Version) = ⊥
+ReportGives w rep (Some Dosing) = ⊥
+ReportGives w rep (Some Spans) = ⊥
 
 -- 1 to 7, 9, then 10 before 11
-unfoldable pub SlotGives : Table → Record → ℕ → Refusal → Type 0
+unfoldable pub SlotGives : Table → Record → ℕ → Option Refusal → Type 0
 SlotGives t q rep = Then (RecordGives t q) (ReportGives (what (used t) q) rep)
 
 -- ---- a list of reports
@@ -113,23 +113,23 @@ unfoldable pub AcceptedTo : List Row → Record → List ℕ → ℕ → Type 0
 AcceptedTo rs q reps n = (t : ℕ) → t < n → ReportGives (what rs (rec_after rs q reps t)) (reported reps t) None
 
 -- from a sound record the list is stopped by f after n slots, or, where f is None, is run to its end
-pub record ListStops (rs : List Row) (q : Record) (reps : List ℕ) (f : Refusal) (n : ℕ) : Type 0 where
+pub record ListStops (rs : List Row) (q : Record) (reps : List ℕ) (f : Option Refusal) (n : ℕ) : Type 0 where
   pub accepted : AcceptedTo rs q reps n
   pub stop : ((f ≡ None) × (n ≡ length reps)) ⊎ ((n < length reps) × (f ≡ None → ⊥) × ReportGives (what rs (rec_after rs q reps n)) (reported reps n) f)
 
 -- a run with a lent log that holds `old` and a lent buffer that holds `kept` gives f after n slots: 1 to 7, 9, 8, then slot by slot
-pub data RunGivesAt (t : Table) (q : Record) (reps old kept : List ℕ) (f : Refusal) (n : ℕ) : Type 0 where
+pub data RunGivesAt (t : Table) (q : Record) (reps old kept : List ℕ) (f : Option Refusal) (n : ℕ) : Type 0 where
   -- 1 to 7, 9
   at_record : RecordGives t q f → (f ≡ None → ⊥) → n ≡ 0 → RunGivesAt t q reps old kept f n
   -- 8: 'The log needs as many bytes as there are reports.' and '8 also when that buffer is shorter than the cycle'
-  at_room : RecordGives t q None → (length old < length reps) ⊎ (length kept < cycle_of (used t)) → f ≡ Room → n ≡ 0 → RunGivesAt t q reps old kept f n
+  at_room : RecordGives t q None → (length old < length reps) ⊎ (length kept < cycle_of (used t)) → f ≡ (Some Room) → n ≡ 0 → RunGivesAt t q reps old kept f n
   -- 'then, slot by slot, 10 before 11'
   at_slot : RecordGives t q None → length reps ≤ length old → cycle_of (used t) ≤ length kept → ListStops (used t) q reps f n → RunGivesAt t q reps old kept f n
 
 -- ---- lost units: 1 to 7, 9, then, slot by slot, 10 before 11
-unfoldable pub LostGives : Table → Record → List ℕ → Refusal → Type 0
+unfoldable pub LostGives : Table → Record → List ℕ → Option Refusal → Type 0
 LostGives t q reps = Then (RecordGives t q) (λ f. (n : ℕ) × ListStops (used t) q reps f n)
 
 -- from a fresh start: 'refused by 1 to 7, 10 and 11'
-unfoldable pub LostFreshGives : Table → List ℕ → Refusal → Type 0
+unfoldable pub LostFreshGives : Table → List ℕ → Option Refusal → Type 0
 LostFreshGives t reps = Then (TableGives t) (λ f. (n : ℕ) × ListStops (used t) (fresh_record t) reps f n)

@@ -1,8 +1,8 @@
 -- Lost units: 'the sum of primary units run by jobs whose primary was aborted', over a history that starts at a record. Rows are counted from 0.
 -- Assumes nothing: these are definitions.
-use Rattle.std.specs.Prelude.{ℕ, zero, suc, ◌+◌, ◌-◌, Bool, true, false, cond, List, ltb, eqb, length}
+use Rattle.std.specs.Prelude.{Option, Result, ℕ, zero, suc, ◌+◌, ◌-◌, Bool, true, false, cond, List, ltb, eqb, length}
 use Rattle.refusal.specs.declared.Refusal.{Refusal}
-use Rattle.refusal.specs.Order.{or_else, beside}
+use Rattle.refusal.specs.Order.{or_else, answer}
 use Rattle.table.specs.declared.Row.{Row}
 use Rattle.table.specs.declared.Table.{Table}
 use Rattle.table.specs.Rows.{used, row_at}
@@ -11,7 +11,6 @@ use Rattle.slots.specs.declared.State.{State}
 use Rattle.slots.specs.declared.State.TheVariants.{Waiting, Failed, Done}
 use Rattle.slots.specs.declared.Job.{Job}
 use Rattle.slots.specs.declared.Record.{Record}
-use Rattle.slots.specs.declared.Lost.{Lost}
 use Rattle.slots.specs.Records.{new_job, job_at, fresh_record}
 use Rattle.slots.specs.Sound.{record_refusal}
 use Rattle.slots.specs.OneSlot.{Work, idle, primary, alternate}
@@ -102,16 +101,12 @@ module _ (rs : List Row) (q : Record) (works : ℕ → Work) (reports : ℕ → 
 
 -- ---- the answers
 -- over a list from a record: 1 to 7, 9, then, slot by slot, 10 before 11
-unfoldable pub lost_refusal : Table → Record → List ℕ → Refusal
+unfoldable pub lost_refusal : Table → Record → List ℕ → Option Refusal
 lost_refusal t q reps = or_else (record_refusal t q) (run_of (used t) q reps).refusal
 
-unfoldable pub lost_from : Table → Record → List ℕ → Lost
-lost_from t q reps =
-    record {
-      refusal = lost_refusal t q reps;
-      units = beside (lost_refusal t q reps) (lost_units (used t) q (logged (run_of (used t) q reps).log) (reported reps) (length reps));
-    }
+unfoldable pub lost_from : Table → Record → List ℕ → Result ℕ Refusal
+lost_from t q reps = answer (lost_refusal t q reps) (lost_units (used t) q (logged (run_of (used t) q reps).log) (reported reps) (length reps))
 
 -- 'over a fresh start and a list of reports'
-unfoldable pub lost_fresh : Table → List ℕ → Lost
+unfoldable pub lost_fresh : Table → List ℕ → Result ℕ Refusal
 lost_fresh t reps = lost_from t (fresh_record t) reps

@@ -1,8 +1,8 @@
 -- A list of reports, run slot by slot.
 -- Assumes nothing: these are definitions.
-use Rattle.std.specs.Prelude.{ℕ, zero, suc, Bool, true, false, not, cond, ◌&&◌, List, [], ◌∷◌, ltb}
+use Rattle.std.specs.Prelude.{Option, None, ℕ, zero, suc, Bool, true, false, not, cond, ◌&&◌, List, [], ◌∷◌, ltb}
 use Rattle.refusal.specs.declared.Refusal.{Refusal}
-use Rattle.refusal.specs.declared.Refusal.TheVariants.{None, Report, Stray}
+use Rattle.refusal.specs.declared.Refusal.TheVariants.{Report, Stray}
 use Rattle.refusal.specs.Order.{accepted, given, or_else}
 use Rattle.table.specs.declared.Row.{Row}
 use Rattle.slots.specs.declared.Record.{Record}
@@ -15,17 +15,17 @@ ran_primary (primary k) = true
 ran_primary (alternate k) = false
 
 -- 10: 'a report is over 2', before 11: 'report 1 or 2 for a slot that ran no primary'
-unfoldable pub report_refusal : Work → ℕ → Refusal
+unfoldable pub report_refusal : Work → ℕ → Option Refusal
 report_refusal w rep = or_else (given (ltb 2 rep) Report) (given (ltb 0 rep && not (ran_primary w)) Stray)
 
 -- what a run gives: the refusal that stopped it, the record after the accepted slots, and their log bytes
 pub record Outcome : Type 0 where
-  pub refusal : Refusal
+  pub refusal : Option Refusal
   pub next : Record
   pub log : List ℕ
 
 -- stopped, with no slot accepted
-abbrev pub stopped : Refusal → Record → Outcome
+abbrev pub stopped : Option Refusal → Record → Outcome
 stopped f q = record { refusal = f; next = q; log = [] }
 
 -- one slot accepted before

@@ -1,6 +1,6 @@
 -- When a record is sound.
 -- Assumes nothing: these are definitions.
-use Rattle.std.specs.Prelude.{ℕ, Bool, not, ◌&&◌, List, map, ltb, leb, eqb, length}
+use Rattle.std.specs.Prelude.{Option, ℕ, Bool, not, ◌&&◌, List, map, ltb, leb, eqb, length}
 use Rattle.refusal.specs.declared.Refusal.{Refusal}
 use Rattle.refusal.specs.declared.Refusal.TheVariants.{Record as NotSound}
 use Rattle.refusal.specs.Order.{given, or_else}
@@ -52,5 +52,5 @@ sound rs q =
     && eqb (tight_row (ends rs) (claims_of rs q) q.clock (cycle_of rs) (length rs)) 0)
 
 -- 1 to 7 of the table, then 9: 'the record isn't sound'
-unfoldable pub record_refusal : Table → Record → Refusal
+unfoldable pub record_refusal : Table → Record → Option Refusal
 record_refusal t q = or_else (table_refusal t) (given (not (sound (used t) q)) NotSound)

@@ -1,11 +1,10 @@
 -- What private functions say of their work: no promise names these.
 -- Assumes nothing: these are definitions.
-use Rattle.std.specs.Prelude.{◌≡◌, true, cond, not, ◌&&◌, List, [], ◌∷◌, ℕ, ◌+◌, ◌-◌, ◌^◌, ◌≤◌, ◌<◌, eqb, length}
+use Rattle.std.specs.Prelude.{Option, Result, None, ◌≡◌, true, cond, not, ◌&&◌, List, [], ◌∷◌, ℕ, ◌+◌, ◌-◌, ◌^◌, ◌≤◌, ◌<◌, eqb, length}
 use Rattle.std.specs.Int.Count.{count_trailing_zeros}
 use Rattle.std.proofs.lemmas.List.Edits.{sets}
 use Rattle.refusal.specs.declared.Refusal.{Refusal}
-use Rattle.refusal.specs.declared.Refusal.TheVariants.{None}
-use Rattle.refusal.specs.Order.{beside}
+use Rattle.refusal.specs.Order.{answer}
 use Rattle.table.specs.declared.Row.{Row}
 use Rattle.table.specs.declared.Table.{Table}
 use Rattle.table.specs.Rows.{used, row_at, cycle_of}
@@ -15,8 +14,7 @@ use Rattle.reserve.specs.Check.{table_refusal}
 use Rattle.slots.specs.declared.Job.{Job}
 use Rattle.slots.specs.declared.Record.{Record}
 use Rattle.slots.specs.declared.Started.{Started}
-use Rattle.slots.specs.declared.Lost.{Lost}
-use Rattle.slots.specs.declared.awaited.Members.{Members}
+use Rattle.slots.specs.declared.Awaiting.{Awaiting}
 use Rattle.slots.specs.declared.slot.Admitted.{Admitted}
 use Rattle.slots.specs.declared.turn.Moved.{Moved}
 use Rattle.slots.specs.declared.turn.Turn.{Turn}
@@ -29,25 +27,16 @@ use Rattle.slots.specs.Reports.{Outcome, report_refusal}
 use Rattle.slots.specs.History.{work_of}
 
 -- a start at slot 0 with the entries js, beside the refusal f or none
-abbrev pub started_with : Refusal → List Job → Started
+abbrev pub started_with : Option Refusal → List Job → Started
 started_with f js = record { refusal = f; start = record { clock = 0; jobs = js } }
 
--- lost units, 0 beside the refusal f
-abbrev pub lost_with : Refusal → ℕ → Lost
-lost_with f units = record { refusal = f; units = beside f units }
-
 -- the waiting rows among the first n
-unfoldable pub members_of : List Job → ℕ → Members
+unfoldable pub members_of : List Job → ℕ → Awaiting
 members_of js n = record { set = set_from (waits js) 0 n; row = first_row (waits js) n; count = count (waits js) 0 n }
 
--- 1 to 7, then 9; the cycle and the holder of the clock's slot beside an acceptance
-unfoldable pub admitted_of : Table → Record → Admitted
-admitted_of t q =
-    record {
-      refusal = record_refusal t q;
-      cycle = beside (record_refusal t q) (cycle_of (used t));
-      holder = beside (record_refusal t q) (holder_at (used t) q q.clock);
-    }
+-- the cycle and the holder of the clock's slot; or 1 to 7, then 9
+unfoldable pub admitted_of : Table → Record → Result Admitted Refusal
+admitted_of t q = answer (record_refusal t q) (record { cycle = cycle_of (used t); holder = holder_at (used t) q q.clock })
 
 -- a sound record of an accepted table with its cycle
 pub record Steady (t : Table) (cycle : ℕ) (q : Record) : Type 0 where
@@ -70,7 +59,7 @@ pub record Standing (t : Table) (cycle clock : ℕ) (jobs : List Job) (waiting o
   pub room : cycle ≤ length kept
 
 -- what a run's loop leaves of the outcome o: the refusal that stopped it, the slots accepted, the record after them, and the lent log, which held `old`: no byte is set past its end
-pub record RunLeaves (o : Outcome) (old : List ℕ) (refusal : Refusal) (slots : ℕ) (next : Record) (log : List ℕ) : Type 0 where
+pub record RunLeaves (o : Outcome) (old : List ℕ) (refusal : Option Refusal) (slots : ℕ) (next : Record) (log : List ℕ) : Type 0 where
   pub stop : refusal ≡ o.refusal
   pub count : slots ≡ length o.log
   pub after : next ≡ o.next
@@ -92,9 +81,9 @@ pub record Workable (t : Table) (js : List Job) (ran : ℕ) : Type 0 where
   pub row : entry_of (work_of ran) < t.n
   pub small : (job_at js (entry_of (work_of ran))).run < 65535
 
--- a slot that runs w: the refusal of its report, the log's byte and that place
-abbrev pub turn_of : Work → ℕ → Turn
-turn_of w rep = record { refusal = report_refusal w rep; ran = byte_of w; at = entry_of w }
+-- a slot that runs w: the log's byte and that place, or the refusal of its report
+abbrev pub turn_of : Work → ℕ → Result Turn Refusal
+turn_of w rep = answer (report_refusal w rep) (record { ran = byte_of w; at = entry_of w })
 
 -- that entry after the unit and its report
 unfoldable pub moved_by : Work → ℕ → Row → Job → Job

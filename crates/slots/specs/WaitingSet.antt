@@ -1,7 +1,8 @@
 -- The rows waiting at the clock as one set of 16 bits.
 -- Assumes nothing: these are definitions.
-use Rattle.std.specs.Prelude.{ℕ, zero, suc, ◌+◌, ◌*◌, Bool, List, length}
-use Rattle.refusal.specs.Order.{beside}
+use Rattle.std.specs.Prelude.{ℕ, zero, suc, ◌+◌, ◌*◌, Bool, List, length, Result}
+use Rattle.refusal.specs.declared.Refusal.{Refusal}
+use Rattle.refusal.specs.Order.{answer}
 use Rattle.table.specs.declared.Row.{Row}
 use Rattle.table.specs.declared.Table.{Table}
 use Rattle.table.specs.Rows.{used}
@@ -26,11 +27,7 @@ unfoldable pub waiting_count : List Row → List Job → ℕ
 waiting_count rs js = count (waits js) 0 (length rs)
 
 -- 1 to 7, then 9; 'The row taken is the set's lowest member', 'An empty set takes no row, answered as 0.'
-unfoldable pub awaiting_of : Table → Record → Awaiting
+unfoldable pub awaiting_of : Table → Record → Result Awaiting Refusal
 awaiting_of t q =
-    record {
-      refusal = record_refusal t q;
-      set = beside (record_refusal t q) (waiting_set (used t) q.jobs);
-      row = beside (record_refusal t q) (lowest_waiting (used t) q.jobs);
-      count = beside (record_refusal t q) (waiting_count (used t) q.jobs);
-    }
+    answer (record_refusal t q)
+    (record { set = waiting_set (used t) q.jobs; row = lowest_waiting (used t) q.jobs; count = waiting_count (used t) q.jobs })

@@ -5,34 +5,14 @@ ghost use Rattle.slots.specs.OneSlot.{is_waiting, waits};
 ghost use Rattle.slots.specs.WaitingSet.{set_from};
 ghost use Rattle.slots.specs.Turns.{members_of, lowest_in};
 
-use crate::{Job, State};
-
-// The set, its lowest member counted from 1, 0 of the empty set, and the count of its members.
-#[derive(Clone, Copy)]
-pub(crate) struct Members {
-    pub set: u16,
-    pub row: u8,
-    pub count: u8,
-}
-
-// 1 for a job that waits.
-pub(crate) fn bit(state: State) -> u16
-    ensures { result ≡ unit (is_waiting state) }
-{
-    match state {
-        State::Waiting => 1,
-        State::Failed => 0,
-        State::Done => 0,
-    }
-}
+use crate::{Awaiting, Job, State};
 
 // The set with one place more below the others, which is a member where its job waits.
 pub(crate) fn joined(set: u16, state: State) -> u16
     requires { set < 32768 }
     ensures { result ≡ unit (is_waiting state) + 2 * set }
 {
-    let b = bit(state);
-    b + 2 * set
+    u16::from(state == State::Waiting) + 2 * set
 }
 
 // The set of the waiting rows among the first n, built from the highest place down.
@@ -40,13 +20,9 @@ pub(crate) fn waiting_set(jobs: [Job; 16], n: u8) -> u16
     requires { n ≤ 16 }
     ensures { result ≡ set_from (waits jobs) 0 n }
 {
-    let mut i = n;
     let mut x: u16 = 0;
-    while 0 < i {
-        i -= 1;
-        let j = jobs[i as usize];
-        let state = j.state;
-        x = joined(x, state);
+    for job in jobs[..n as usize].iter().rev() {
+        x = joined(x, job.state);
     }
     x
 }
@@ -58,17 +34,17 @@ pub(crate) fn lowest(x: u16) -> u8
     if x == 0 {
         0
     } else {
-        u16::trailing_zeros(x) as u8 + 1
+        x.trailing_zeros() as u8 + 1
     }
 }
 
-// The waiting rows among the first n.
-pub(crate) fn awaited_rows(jobs: [Job; 16], n: u8) -> Members
+// The waiting rows among the first n: their set, its lowest member, and the count of its members.
+pub(crate) fn awaited_rows(jobs: [Job; 16], n: u8) -> Awaiting
     requires { n ≤ 16 }
     ensures { result ≡ members_of jobs n }
 {
     let set = waiting_set(jobs, n);
     let row = lowest(set);
-    let count = u16::count_ones(set) as u8;
-    Members { set, row, count }
+    let count = set.count_ones() as u8;
+    Awaiting { set, row, count }
 }

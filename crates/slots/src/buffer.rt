@@ -6,14 +6,14 @@ ghost use Rattle.reserve.specs.Turns.{Ready};
 ghost use Rattle.slots.specs.OneSlot.{holder_at};
 ghost use Rattle.slots.specs.Buffer.{Kept, Freed, Refilled, Written, byte_after, row_after, above_at, Holdable, Rowed};
 
-use crate::Job;
+use crate::{Job, opening};
 use table::{Row, Table};
 
 // A job takes a slot that nobody holds, and one that is its row's already.
 fn open_to(b: u8, row: u8) -> bool
     ensures { result ≡ (eqb b 0 || eqb b row) }
 {
-    if b == 0 { true } else { b == row }
+    b == 0 || b == row
 }
 
 // Who holds the slot once the row has come to it.
@@ -37,12 +37,10 @@ fn hold(row: u8, first: u16, end: u16, units: u16, out: &mut [u8])
     ensures { Written first end (byte_after row end units out.old) out.old out.new }
 {
     let mut left = units;
-    let mut s = end;
-    while first < s {
+    for s in (first..end).rev() {
         if left == 0 {
             return;
         }
-        s -= 1;
         let b = out[s as usize];
         out[s as usize] = taker(b, row);
         left = rest(b, row, left);
@@ -54,14 +52,10 @@ fn hold_row(r: Row, row: u8, clock: u16, units: u16, until: u16, out: &mut [u8])
     requires { Holdable r clock until (length out.old) }
     ensures { Written clock (window_end r (until - 1)) (row_after r row clock units out.old) out.old out.new }
 {
-    let mut left = units;
-    let mut first = clock;
-    let mut end = clock / r.period * r.period;
-    while first < until {
-        end += r.period;
-        hold(row, first, end, left, out);
-        first = end;
-        left = r.alternate;
+    let end = opening::window_end(r, clock);
+    hold(row, clock, end, units, out);
+    for first in (end..until).step_by(r.period as usize) {
+        hold(row, first, first + r.period, r.alternate, out);
     }
 }
 
@@ -70,24 +64,9 @@ fn hold_rows(t: Table, from: u8, clock: u16, jobs: [Job; 16], until: u16, out: &
     requires { Ready t (cycle_of (used t)) × (from ≤ t.n) × Rowed (used t) (record { clock = clock; jobs = jobs }) until from out.old }
     ensures { Written clock until (holder_at (used t) (record { clock = clock; jobs = jobs })) out.old out.new }
 {
-    let mut i = from;
-    while i < t.n {
+    for i in from..t.n {
         let at = i as usize;
-        let j = jobs[at];
-        hold_row(t.rows[at], i + 1, clock, j.left, until, out);
-        i += 1;
-    }
-}
-
-// Nobody holds the first slots.
-fn clear(slots: u16, out: &mut [u8])
-    requires { slots ≤ length out.old }
-    ensures { Written 0 slots (λ _. 0) out.old out.new }
-{
-    let mut s: u16 = 0;
-    while s < slots {
-        out[s as usize] = 0;
-        s += 1;
+        hold_row(t.rows[at], i + 1, clock, jobs[at].left, until, out);
     }
 }
 
@@ -96,7 +75,7 @@ pub(crate) fn build(t: Table, cycle: u16, clock: u16, jobs: [Job; 16], out: &mut
     requires { Ready t cycle × (clock < cycle) × (cycle ≤ length out.old) }
     ensures { Kept (used t) cycle (record { clock = clock; jobs = jobs }) out.old out.new }
 {
-    clear(cycle, out);
+    out[..cycle as usize].fill(0);
     hold_rows(t, 0, clock, jobs, cycle, out);
 }
 
@@ -112,11 +91,8 @@ fn give_up(place: u8, clock: u16, end: u16, out: &mut [u8])
     requires { (clock ≤ end) × (end ≤ length out.old) }
     ensures { Written clock end (above_at place out.old) out.old out.new }
 {
-    let mut s = clock;
-    while s < end {
-        let b = out[s as usize];
-        out[s as usize] = above(b, place);
-        s += 1;
+    for b in &mut out[clock as usize..end as usize] {
+        *b = above(*b, place);
     }
 }
 

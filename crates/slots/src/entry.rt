@@ -1,5 +1,5 @@
 // One row's job: whether it has what its state says, and what a slot does to it.
-ghost use Rattle.std.specs.Prelude.{◌≡◌, cond, ◌-◌, ◌<◌, replicate};
+ghost use Rattle.std.specs.Prelude.{◌≡◌, cond, ◌<◌, replicate};
 ghost use Rattle.table.specs.Windows.{starts};
 ghost use Rattle.slots.specs.Records.{new_job, no_job};
 ghost use Rattle.slots.specs.Sound.{job_fits};
@@ -34,63 +34,25 @@ pub(crate) fn no_jobs() -> [Job; 16]
 pub(crate) fn fits(r: Row, j: Job) -> bool
     ensures { result ≡ job_fits r j }
 {
-    let state = j.state;
-    match state {
-        State::Waiting => {
-            if j.run < r.primary {
-                j.left == r.alternate
-            } else {
-                false
-            }
-        }
-        State::Failed => {
-            if j.run <= r.primary {
-                j.left <= r.alternate
-            } else {
-                false
-            }
-        }
-        State::Done => {
-            if j.run < 1 {
-                false
-            } else if j.run <= r.primary {
-                j.left == 0
-            } else {
-                false
-            }
-        }
+    match j.state {
+        State::Waiting => j.run < r.primary && j.left == r.alternate,
+        State::Failed => j.run <= r.primary && j.left <= r.alternate,
+        State::Done => 1 <= j.run && j.run <= r.primary && j.left == 0,
     }
-}
-
-// One less, and 0 of 0.
-fn less(x: u16) -> u16
-    ensures { result ≡ x - 1 }
-{
-    if 0 < x { x - 1 } else { 0 }
 }
 
 // The job after a unit of its alternate: a waiting one's primary is aborted.
 pub(crate) fn fallen_back(j: Job) -> Job
     ensures { result ≡ on_alternate j }
 {
-    let state = j.state;
-    let left = less(j.left);
-    match state {
-        State::Waiting => Job {
-            state: State::Failed,
-            run: j.run,
-            left,
-        },
-        State::Failed => Job {
-            state: State::Failed,
-            run: j.run,
-            left,
-        },
-        State::Done => Job {
-            state: State::Done,
-            run: j.run,
-            left,
-        },
+    let state = match j.state {
+        State::Waiting | State::Failed => State::Failed,
+        State::Done => State::Done,
+    };
+    Job {
+        state,
+        run: j.run,
+        left: j.left.saturating_sub(1),
     }
 }
 
@@ -100,34 +62,13 @@ pub(crate) fn tried(r: Row, j: Job, report: u8) -> Job
     ensures { result ≡ on_primary report r j }
 {
     let run = j.run + 1;
-    let left = j.left;
-    match report {
-        0 => {
-            if run == r.primary {
-                Job {
-                    state: State::Failed,
-                    run,
-                    left,
-                }
-            } else {
-                Job {
-                    state: State::Waiting,
-                    run,
-                    left,
-                }
-            }
-        }
-        1 => Job {
-            state: State::Done,
-            run,
-            left: 0,
-        },
-        2..=255 => Job {
-            state: State::Failed,
-            run,
-            left,
-        },
-    }
+    let (state, left) = match report {
+        0 if run == r.primary => (State::Failed, j.left),
+        0 => (State::Waiting, j.left),
+        1 => (State::Done, 0),
+        2..=255 => (State::Failed, j.left),
+    };
+    Job { state, run, left }
 }
 
 // The job as the clock comes to c: a new one where the row's window starts there.
@@ -135,6 +76,5 @@ pub(crate) fn come(r: Row, c: u16, j: Job) -> Job
     requires { 0 < r.period }
     ensures { result ≡ cond (starts r c) (new_job r) j }
 {
-    let m = c % r.period;
-    if m == 0 { new_job(r) } else { j }
+    if c % r.period == 0 { new_job(r) } else { j }
 }

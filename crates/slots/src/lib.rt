@@ -1,7 +1,7 @@
 // The record of a table's run, by value: what stands at a clock, one slot, and a list of reports.
 #![tactic(auto)]
 
-ghost use Rattle.std.specs.Prelude.{◌≡◌, ◌≤◌};
+ghost use Rattle.std.specs.Prelude.{◌≡◌};
 ghost use Rattle.slots.specs.Records.{fresh_jobs, started_for};
 ghost use Rattle.slots.specs.WaitingSet.{awaiting_of};
 ghost use Rattle.slots.specs.Answers.{asked_of, stepped_by, ran_by, log_after, buffer_after};
@@ -21,7 +21,7 @@ mod slot;
 mod turn;
 
 // A row's current job: its primary may still run, or has failed (reported, overrun or aborted), or is done.
-#[derive(Clone, Copy)]
+#[derive(Clone, Copy, Debug, PartialEq, Eq)]
 pub enum State {
     Waiting,
     Failed,
@@ -29,7 +29,7 @@ pub enum State {
 }
 
 // A row's current job: its state, the primary units run and the alternate units left.
-#[derive(Clone, Copy)]
+#[derive(Clone, Copy, Debug, PartialEq, Eq)]
 pub struct Job {
     pub state: State,
     pub run: u16,
@@ -37,76 +37,61 @@ pub struct Job {
 }
 
 // A record: the clock, and each row's current job. Entries past the table's rows are ignored and handed back as they came.
-#[derive(Clone, Copy)]
+// An array and no `Vec`: the project has no heap, and a record is a value that its caller keeps.
+#[derive(Clone, Copy, Debug, PartialEq, Eq)]
 pub struct Record {
     pub clock: u16,
     pub jobs: [Job; 16],
 }
 
-// The answer of `fresh`: a refusal beside the record to start from.
-#[derive(Clone, Copy)]
+// The answer of `fresh`: the record to start from, also beside a refusal of the table.
+// No `Result`, since what it promises of that record holds beside a refusal too (`specs::Records::started_for`).
+#[derive(Clone, Copy, Debug, PartialEq, Eq)]
 pub struct Started {
-    pub refusal: Refusal,
+    pub refusal: Option<Refusal>,
     pub start: Record,
 }
 
-// The answer of the question: the log's byte for the slot at the clock, 0 beside a refusal.
-#[derive(Clone, Copy)]
-pub struct Asked {
-    pub refusal: Refusal,
-    pub ran: u8,
-}
-
-// The rows waiting at the clock as a set of 16 bits, row 1 in the lowest place, the row taken and the number waiting; 0 beside a refusal.
-#[derive(Clone, Copy)]
+// The rows waiting at the clock as a set of 16 bits, row 1 in the lowest place, the row taken and the number waiting.
+// The row is no `Option`: document 01 has an empty set's 'answered as 0' (`specs::WaitingSet::awaiting_of`).
+#[derive(Clone, Copy, Debug, PartialEq, Eq)]
 pub struct Awaiting {
-    pub refusal: Refusal,
     pub set: u16,
     pub row: u8,
     pub count: u8,
 }
 
 // The answer of one slot: the next record and the byte that ran; beside a refusal the record given and 0.
-#[derive(Clone, Copy)]
+// No `Result`, since the record stands beside a refusal too (theorem `step_hands_back`).
+#[derive(Clone, Copy, Debug, PartialEq, Eq)]
 pub struct Stepped {
-    pub refusal: Refusal,
+    pub refusal: Option<Refusal>,
     pub next: Record,
     pub ran: u8,
 }
 
-// The answer of a run: the slots accepted and the record after them.
-#[derive(Clone, Copy)]
+// The answer of a run: the refusal that stopped it, the slots accepted before it, and the record after them.
+// No `Result`, since slots and record stand beside a refusal too (theorems `run_hands_back`, `early_hands_back`).
+#[derive(Clone, Copy, Debug, PartialEq, Eq)]
 pub struct Ran {
-    pub refusal: Refusal,
+    pub refusal: Option<Refusal>,
     pub slots: usize,
     pub next: Record,
 }
 
-// The answer of lost units; 0 beside a refusal.
-#[derive(Clone, Copy)]
-pub struct Lost {
-    pub refusal: Refusal,
-    pub units: u64,
-}
-
 // The entries of a fresh record.
 fn fresh_jobs(t: Table) -> [Job; 16]
-    requires { t.n ≤ 16 }
     ensures { result ≡ fresh_jobs (used t) }
 {
-    let n = t.n;
     let mut jobs = entry::no_jobs();
-    let mut i: u8 = 0;
-    while i < n {
-        let at = i as usize;
-        jobs[at] = entry::new_job(t.rows[at]);
-        i += 1;
+    for (i, row) in t.rows().iter().enumerate() {
+        jobs[i] = entry::new_job(*row);
     }
     jobs
 }
 
 // A start at slot 0, beside a refusal of the table or none.
-fn start_with(refusal: Refusal, jobs: [Job; 16]) -> Started
+fn start_with(refusal: Option<Refusal>, jobs: [Job; 16]) -> Started
     ensures { result ≡ started_with refusal jobs }
 {
     Started {
@@ -119,80 +104,45 @@ fn start_with(refusal: Refusal, jobs: [Job; 16]) -> Started
 pub fn fresh(t: Table) -> Started
     ensures { result ≡ started_for t }
 {
-    let checked = reserve::check(t);
-    let f = checked.refusal;
-    match f {
-        Refusal::None => start_with(Refusal::None, fresh_jobs(t)),
-        _ => start_with(f, entry::no_jobs()),
+    match reserve::check(t) {
+        Ok(_) => start_with(None, fresh_jobs(t)),
+        Err(f) => start_with(Some(f), entry::no_jobs()),
     }
 }
 
 // Lost units over a fresh start and a list of reports.
-pub fn lost_fresh(t: Table, reports: &[u8]) -> Lost
+pub fn lost_fresh(t: Table, reports: &[u8]) -> Result<u64, Refusal>
     ensures { result ≡ lost_fresh t reports.now }
 {
-    let started = fresh(t);
-    let q = started.start;
-    q.lost(t, reports)
+    fresh(t).start.lost(t, reports)
 }
 
 impl Record {
     // What runs at the clock, as the log's byte.
-    pub fn what_runs(self, t: Table) -> Asked
+    pub fn what_runs(self, t: Table) -> Result<u8, Refusal>
         ensures { result ≡ asked_of t self }
     {
-        let admitted = slot::admit(self, t);
-        let f = admitted.refusal;
-        match f {
-            Refusal::None => {
-                let jobs = self.jobs;
-                let waiting = awaited::awaited_rows(jobs, t.n);
-                let ran = slot::byte_of(admitted.holder, waiting.row);
-                Asked {
-                    refusal: Refusal::None,
-                    ran,
-                }
-            }
-            _ => Asked { refusal: f, ran: 0 },
-        }
+        let admitted = slot::admit(self, t)?;
+        let waiting = awaited::awaited_rows(self.jobs, t.n);
+        Ok(slot::byte_of(admitted.holder, waiting.row))
     }
 
     // The rows waiting at the clock, the lowest of them and their number.
-    pub fn waiting(self, t: Table) -> Awaiting
+    pub fn waiting(self, t: Table) -> Result<Awaiting, Refusal>
         ensures { result ≡ awaiting_of t self }
     {
-        let admitted = slot::admit(self, t);
-        let f = admitted.refusal;
-        match f {
-            Refusal::None => {
-                let jobs = self.jobs;
-                let waiting = awaited::awaited_rows(jobs, t.n);
-                Awaiting {
-                    refusal: Refusal::None,
-                    set: waiting.set,
-                    row: waiting.row,
-                    count: waiting.count,
-                }
-            }
-            _ => Awaiting {
-                refusal: f,
-                set: 0,
-                row: 0,
-                count: 0,
-            },
-        }
+        slot::admit(self, t)?;
+        Ok(awaited::awaited_rows(self.jobs, t.n))
     }
 
     // One slot: what runs at the clock, and its report.
     pub fn step(self, t: Table, report: u8) -> Stepped
         ensures { result ≡ stepped_by t self report }
     {
-        let admitted = slot::admit(self, t);
-        let f = admitted.refusal;
-        match f {
-            Refusal::None => slot::settle(self, t, admitted.cycle, admitted.holder, report),
-            _ => Stepped {
-                refusal: f,
+        match slot::admit(self, t) {
+            Ok(admitted) => slot::settle(self, t, admitted.cycle, admitted.holder, report),
+            Err(f) => Stepped {
+                refusal: Some(f),
                 next: self,
                 ran: 0,
             },
@@ -206,12 +156,10 @@ impl Record {
         ensures bytes { log.new ≡ log_after t self reports.now log.old buffer.old }
         ensures kept { buffer.new ≡ buffer_after t self reports.now log.old buffer.old }
     {
-        let admitted = slot::admit(self, t);
-        let f = admitted.refusal;
-        match f {
-            Refusal::None => listed::run_admitted(self, t, admitted.cycle, reports, log, buffer),
-            _ => Ran {
-                refusal: f,
+        match slot::admit(self, t) {
+            Ok(admitted) => listed::run_admitted(self, t, admitted.cycle, reports, log, buffer),
+            Err(f) => Ran {
+                refusal: Some(f),
                 slots: 0,
                 next: self,
             },
@@ -219,17 +167,10 @@ impl Record {
     }
 
     // Lost units over a list of reports from this record: the run's own loop, with no log and a buffer of its own.
-    pub fn lost(self, t: Table, reports: &[u8]) -> Lost
+    pub fn lost(self, t: Table, reports: &[u8]) -> Result<u64, Refusal>
         ensures { result ≡ lost_from t self reports.now }
     {
-        let admitted = slot::admit(self, t);
-        let f = admitted.refusal;
-        match f {
-            Refusal::None => listed::lost_admitted(self, t, admitted.cycle, reports),
-            _ => Lost {
-                refusal: f,
-                units: 0,
-            },
-        }
+        let admitted = slot::admit(self, t)?;
+        listed::lost_admitted(self, t, admitted.cycle, reports)
     }
 }

@@ -1,21 +1,21 @@
 // A list of reports from a sound record, slot by slot, with the reservations kept in a lent buffer.
-ghost use Rattle.std.specs.Prelude.{◌≡◌, ◌||◌, ◌≤◌, ◌<◌, ltb, length, set};
+ghost use Rattle.std.specs.Prelude.{None, ◌≡◌, ◌||◌, ◌≤◌, ◌<◌, ltb, length, set};
 ghost use Rattle.table.specs.Rows.{used};
 ghost use Rattle.slots.specs.Reports.{run_of};
 ghost use Rattle.slots.specs.Answers.{ran_by, log_after, buffer_after};
 ghost use Rattle.slots.specs.LostUnits.{lost_from};
-ghost use Rattle.refusal.specs.declared.Refusal.TheVariants.{None};
 ghost use Rattle.slots.specs.Buffer.{Kept, Stale};
-ghost use Rattle.slots.specs.Turns.{Steady, Standing, RunLeaves, lost_by, lost_with};
+ghost use Rattle.slots.specs.Turns.{Steady, Standing, RunLeaves, lost_by};
 
-use crate::{Job, Lost, Ran, Record, awaited, buffer, entry, opening, turn};
+use crate::{Job, Ran, Record, awaited, buffer, entry, opening, turn};
 use refusal::Refusal;
 use table::Table;
 
 // What a list has come to: the refusal that stopped it, the slots accepted, the record after them, and the units that they lost.
+// No `Result`, since a run's answer has what stands beside the refusal (`Ran`).
 #[derive(Clone, Copy)]
 pub(crate) struct Course {
-    pub refusal: Refusal,
+    pub refusal: Option<Refusal>,
     pub slots: usize,
     pub next: Record,
     pub lost: u64,
@@ -73,21 +73,19 @@ fn run_stretches(
     let mut opens = next;
     let mut lost: u64 = 0;
     let mut i: usize = 0;
+    // two `while`s, since no `for` is plainer: a done moves the inner one's end, and the place `i` in the list and the log goes on from stretch to stretch
     while i < reports.len() {
         let mut stop = turn::stretch(i, reports.len(), opens - clock);
         let mut finished: u8 = 0;
         while i < stop {
             let report = reports[i];
-            let chosen = turn::decide(kept[clock as usize], waiting, report);
-            let f = chosen.refusal;
-            match f {
-                Refusal::None => {
+            match turn::decide(kept[clock as usize], waiting, report) {
+                Ok(chosen) => {
                     let at = chosen.at as usize;
                     let moved = turn::act(
                         t.rows[at], jobs[at], waiting, chosen.at, chosen.ran, report,
                     );
-                    let job = moved.job;
-                    jobs[at] = job;
+                    jobs[at] = moved.job;
                     waiting = moved.waiting;
                     lost += moved.lost as u64;
                     finished = moved.finished;
@@ -97,9 +95,9 @@ fn run_stretches(
                     i += 1;
                     stop = turn::cut(finished, i, stop);
                 }
-                _ => {
+                Err(f) => {
                     return Course {
-                        refusal: f,
+                        refusal: Some(f),
                         slots: i,
                         next: Record { clock, jobs },
                         lost,
@@ -110,21 +108,18 @@ fn run_stretches(
         clock = opening::wrapped(clock, cycle);
         waiting = 0;
         opens = cycle;
-        let mut k = t.n;
-        while 0 < k {
-            k -= 1;
+        for k in (0..t.n).rev() {
             let at = k as usize;
             let row = t.rows[at];
             let job = entry::come(row, clock, jobs[at]);
             jobs[at] = job;
-            let state = job.state;
-            waiting = awaited::joined(waiting, state);
-            opens = opening::nearer(opens, row, clock);
+            waiting = awaited::joined(waiting, job.state);
+            opens = opens.min(opening::window_end(row, clock));
         }
         keep(t, cycle, clock, jobs, finished, kept);
     }
     Course {
-        refusal: Refusal::None,
+        refusal: None,
         slots: i,
         next: Record { clock, jobs },
         lost,
@@ -145,8 +140,7 @@ pub(crate) fn run_list(
     ensures lost { result.refusal ≡ None → result.lost ≡ lost_by (used t) start reports.now }
     ensures kept { Kept (used t) cycle result.next kept.old kept.new }
 {
-    let jobs = start.jobs;
-    let clock = start.clock;
+    let Record { clock, jobs } = start;
     buffer::build(t, cycle, clock, jobs, kept);
     let waiting = awaited::waiting_set(jobs, t.n);
     let opens = opening::next_opening(t, cycle, clock);
@@ -157,24 +151,7 @@ pub(crate) fn run_list(
 fn lacks_room(log: usize, reports: usize, buffer: usize, cycle: u16) -> bool
     ensures { result ≡ (ltb log reports || ltb buffer cycle) }
 {
-    if log < reports {
-        true
-    } else {
-        buffer < cycle as usize
-    }
-}
-
-// The answer of lost units, 0 beside a refusal.
-fn lost_with(refusal: Refusal, units: u64) -> Lost
-    ensures { result ≡ lost_with refusal units }
-{
-    match refusal {
-        Refusal::None => Lost {
-            refusal: Refusal::None,
-            units,
-        },
-        _ => Lost { refusal, units: 0 },
-    }
+    log < reports || buffer < cycle as usize
 }
 
 // The run from a record that is sound, on a table that is accepted: 8 where there is no room.
@@ -193,29 +170,29 @@ pub(crate) fn run_admitted(
 {
     if lacks_room(log.len(), reports.len(), buffer.len(), cycle) {
         return Ran {
-            refusal: Refusal::Room,
+            refusal: Some(Refusal::Room),
             slots: 0,
             next: q,
         };
     }
     let course = run_list(q, t, cycle, reports, log, buffer);
-    let refusal = course.refusal;
-    let next = course.next;
     Ran {
-        refusal,
+        refusal: course.refusal,
         slots: course.slots,
-        next,
+        next: course.next,
     }
 }
 
 // Lost units from such a record: the run's own loop, with no log and a buffer of its own.
-pub(crate) fn lost_admitted(q: Record, t: Table, cycle: u16, reports: &[u8]) -> Lost
+pub(crate) fn lost_admitted(q: Record, t: Table, cycle: u16, reports: &[u8]) -> Result<u64, Refusal>
     requires { Steady t cycle q }
     ensures { result ≡ lost_from t q reports.now }
 {
     let mut log = [0u8; 0];
     let mut buffer = [0u8; 4096];
     let course = run_list(q, t, cycle, reports, &mut log, &mut buffer);
-    let stop = course.refusal;
-    lost_with(stop, course.lost)
+    match course.refusal {
+        None => Ok(course.lost),
+        Some(f) => Err(f),
+    }
 }

@@ -1,5 +1,5 @@
 // Where windows open: the clock as it comes to such a slot, and the next one.
-ghost use Rattle.std.specs.Prelude.{◌≡◌, cond, ◌<◌, min, eqb};
+ghost use Rattle.std.specs.Prelude.{◌≡◌, cond, ◌<◌, eqb};
 ghost use Rattle.table.specs.Rows.{used};
 ghost use Rattle.table.specs.Windows.{window_end};
 ghost use Rattle.reserve.specs.Turns.{Ready};
@@ -22,26 +22,14 @@ pub(crate) fn window_end(r: Row, s: u16) -> u16
     (s / r.period + 1) * r.period
 }
 
-// The earlier of a slot and the end of the window that slot s is in.
-pub(crate) fn nearer(opens: u16, r: Row, s: u16) -> u16
-    requires { (0 < r.period) × (window_end r s < 65536) }
-    ensures { result ≡ min opens (window_end r s) }
-{
-    let end = window_end(r, s);
-    if opens < end { opens } else { end }
-}
-
 // The next slot after s at which a window opens, of those up to the cycle's end.
 pub(crate) fn next_opening(t: Table, cycle: u16, s: u16) -> u16
     requires { Ready t cycle × (s < cycle) }
     ensures { Quiet (used t) cycle s result }
 {
-    let n = t.n;
     let mut opens = cycle;
-    let mut i: u8 = 0;
-    while i < n {
-        opens = nearer(opens, t.rows[i as usize], s);
-        i += 1;
+    for row in t.rows() {
+        opens = opens.min(window_end(*row, s));
     }
     opens
 }

@@ -9,10 +9,9 @@ use crate::{Job, State, awaited, entry, slot};
 use refusal::Refusal;
 use table::Row;
 
-// What a slot runs: the refusal of its report, the log's byte, and the place of the entry that the unit moves; 0 where the slot is idle.
+// What a slot runs: the log's byte, and the place of the entry that the unit moves; 0 where the slot is idle.
 #[derive(Clone, Copy)]
 pub(crate) struct Turn {
-    pub refusal: Refusal,
     pub ran: u8,
     pub at: u8,
 }
@@ -39,16 +38,16 @@ pub(crate) fn entry_of(ran: u8) -> u8
     }
 }
 
-// What runs, by the slot's holder and the waiting set, and whether its report is refused.
-pub(crate) fn decide(holder: u8, waiting: u16, report: u8) -> Turn
+// What runs, by the slot's holder and the waiting set, or the refusal of its report.
+pub(crate) fn decide(holder: u8, waiting: u16, report: u8) -> Result<Turn, Refusal>
     requires { (holder ≤ 16) × (lowest_in waiting ≤ 16) }
     ensures { result ≡ turn_of (reserved holder (unreserved (lowest_in waiting))) report }
 {
     let row = awaited::lowest(waiting);
     let ran = slot::byte_of(holder, row);
-    let refusal = slot::report_refusal(ran, report);
+    slot::hear(ran, report)?;
     let at = entry_of(ran);
-    Turn { refusal, ran, at }
+    Ok(Turn { ran, at })
 }
 
 // The entry after the byte's unit and its report.
@@ -65,23 +64,13 @@ pub(crate) fn moved_job(r: Row, j: Job, ran: u8, report: u8) -> Job
     }
 }
 
-// The set without the place.
-fn without(set: u16, at: u8) -> u16
-    requires { (at < 16) × (2 ^ at ≤ set) }
-    ensures { result ≡ set - 2 ^ at }
-{
-    set - (1u16 << (at as u32))
-}
-
 // The waiting set after the unit, at the place whose job was in one state and is in the other.
 fn still_waiting(set: u16, at: u8, was: State, is: State) -> u16
     requires { (at < 16) × (is_waiting was ≡ true → 2 ^ at ≤ set) }
     ensures { result ≡ cond (is_waiting was && not (is_waiting is)) (set - 2 ^ at) set }
 {
-    let before = awaited::bit(was);
-    let after = awaited::bit(is);
-    if after < before {
-        without(set, at)
+    if was == State::Waiting && is != State::Waiting {
+        set - (1 << at)
     } else {
         set
     }
@@ -91,14 +80,10 @@ fn still_waiting(set: u16, at: u8, was: State, is: State) -> u16
 fn lost_by(j: Job, ran: u8) -> u16
     ensures { result ≡ loss_by (work_of ran) j }
 {
-    let state = j.state;
-    if ran <= 16 {
-        return 0;
-    }
-    match state {
-        State::Waiting => j.run,
-        State::Failed => 0,
-        State::Done => 0,
+    if 16 < ran && j.state == State::Waiting {
+        j.run
+    } else {
+        0
     }
 }
 
@@ -115,16 +100,11 @@ pub(crate) fn act(r: Row, j: Job, set: u16, at: u8, ran: u8, report: u8) -> Move
     ensures { result ≡ moved_of (work_of ran) report r j set at }
 {
     let job = moved_job(r, j, ran, report);
-    let was = j.state;
-    let is = job.state;
-    let waiting = still_waiting(set, at, was, is);
-    let lost = lost_by(j, ran);
-    let finished = finished_by(ran, report);
     Moved {
         job,
-        waiting,
-        lost,
-        finished,
+        waiting: still_waiting(set, at, j.state, job.state),
+        lost: lost_by(j, ran),
+        finished: finished_by(ran, report),
     }
 }
 
@@ -140,7 +120,5 @@ pub(crate) fn stretch(i: usize, reports: usize, slots: u16) -> usize
     requires { (i < reports) × (0 < slots) }
     ensures { (i < result) × (result ≤ reports) × (result - i ≤ slots) }
 {
-    let room = reports - i;
-    let most = slots as usize;
-    if room < most { reports } else { i + most }
+    i + (reports - i).min(slots as usize)
 }

@@ -11,16 +11,17 @@ use lib.Dec.{ltb, eqb}
 use lib.ListN.{length}
 use lib.Seq.{length-take-le}
 use Rattle.refusal.specs.declared.Refusal.{Refusal}
-use Rattle.refusal.specs.declared.Refusal.TheVariants.{None, Empty, Many, Cycle}
-use Rattle.refusal.specs.Order.{given, or_else, beside}
-use Rattle.refusal.proofs.Order.{Told, keeps, passes, none_first, none_later, given_not, beside_refused, beside_none}
+use Rattle.refusal.specs.declared.Refusal.TheVariants.{Empty, Many, Cycle}
+use Rattle.std.specs.Prelude.{Option, Some, None, ok_or, Ok, Err}
+use Rattle.std.proofs.lemmas.Option.{none-some}
+use Rattle.refusal.specs.Order.{given, or_else, verdict}
+use Rattle.refusal.proofs.Order.{passes, none_first, none_later, given_not, answer_ok, answer_err, err_some}
 use Rattle.table.specs.declared.Row.{Row}
 use Rattle.table.specs.declared.Table.{Table}
-use Rattle.table.specs.declared.Checked.{Checked}
-use Rattle.table.specs.Rows.{used, blank, row_at, cycle_of}
+use Rattle.table.specs.Rows.{used, blank, row_at, cycle_of, within_cycle}
 use Rattle.table.specs.Check.{fault_of, faults_of, rows_refusal, rows_check}
 use Rattle.table.proofs.Cycle.{cycle_pos}
-use Rattle.table.proofs.Capped.{capped, capped_cases}
+use Rattle.table.proofs.Capped.{within_cases, within_is}
 use Rattle.table.proofs.Good.{Good, fault_good, good_fault}
 
 -- ---- rows after a row r₀: each is good, and no period is less than the one before
@@ -43,48 +44,50 @@ sound_faults k r₀ (r ∷ rs) h =
 
 -- ---- the cases of the answer
 module _ (t : Table) where
-  answered : (f : Refusal) (c : ℕ) → f ≡ rows_refusal t → c ≡ beside f (cycle_of (used t)) → ◌≡◌ {A = Checked} (record { refusal = f; cycle = c }) (rows_check t)
-  unfolding rows_check
-  answered f c e h = rw (h, e)
+  pub check_empty : t.n ≡ 0 → Err Empty ≡ rows_check t
+  unfolding rows_check rows_refusal or_else
+  check_empty a = answer_err (rows_refusal t) (cycle_of (used t)) Empty (simp (eq-eqb _ _ a))
 
-  pub check_empty : t.n ≡ 0 → ◌≡◌ {A = Checked} (record { refusal = Empty; cycle = 0 }) (rows_check t)
-  unfolding rows_refusal or_else beside
-  check_empty a = answered Empty 0 (simp (eq-eqb _ _ a)) refl
+  pub check_many : 16 < t.n → Err Many ≡ rows_check t
+  unfolding rows_check rows_refusal or_else
+  check_many b = answer_err (rows_refusal t) (cycle_of (used t)) Many (simp (ne_eqb t.n 0 (λ z. omega arith), lt-ltb _ _ b))
 
-  pub check_many : 16 < t.n → ◌≡◌ {A = Checked} (record { refusal = Many; cycle = 0 }) (rows_check t)
-  unfolding rows_refusal or_else beside
-  check_many b = answered Many 0 (simp (ne_eqb t.n 0 (λ z. omega arith), lt-ltb _ _ b)) refl
-
-  module _ (a : t.n ≡ 0 → ⊥) (b : t.n ≤ 16) (f : Refusal) (e : f ≡ faults_of 1 0 (used t)) where
-    reached : rows_refusal t ≡ or_else f (given (ltb 4096 (cycle_of (used t))) Cycle)
+  module _ (a : t.n ≡ 0 → ⊥) (b : t.n ≤ 16) where
+    reached : rows_refusal t ≡ or_else (faults_of 1 0 (used t)) (given (ltb 4096 (cycle_of (used t))) Cycle)
     unfolding rows_refusal or_else
-    reached = rw e (simp (ne_eqb _ _ a, le-ltb _ _ b))
+    reached = simp (ne_eqb _ _ a, le-ltb _ _ b)
 
-    pub check_fault : Told f → ◌≡◌ {A = Checked} (record { refusal = f; cycle = 0 }) (rows_check t)
-    check_fault p = answered f 0 (keeps f _ p ∙ sym reached) (beside_refused f _ p)
+    pub check_fault : (f : Refusal) → verdict (faults_of 1 0 (used t)) ≡ Err f → Err f ≡ rows_check t
+    unfolding rows_check or_else
+    check_fault f e = answer_err (rows_refusal t) (cycle_of (used t)) f (reached ∙ ap (λ (g : Option Refusal). or_else g (given (ltb 4096 (cycle_of (used t))) Cycle)) (err_some _ _ f e))
 
-    module _ (d : f ≡ None) where
-      last : given (ltb 4096 (cycle_of (used t))) Cycle ≡ rows_refusal t
-      last = passes f _ d ∙ sym reached
+    module _ (d : faults_of 1 0 (used t) ≡ None) where
+      pub periods : (i : ℕ) → i < length (used t) → 0 < (row_at (used t) i).period
+      periods i l = (faults_sound 1 blank (used t) d i l).0.period
 
-      cycle_some : 0 < cycle_of (used t)
-      cycle_some = cycle_pos (used t) (λ i l. (faults_sound 1 blank (used t) (sym e ∙ d) i l).0.period)
+      last : rows_refusal t ≡ given (ltb 4096 (cycle_of (used t))) Cycle
+      last = reached ∙ sym (passes _ _ d)
 
-      module _ (c : ℕ) (g : c ≡ capped (cycle_of (used t))) where
-        pub check_cycle : c ≡ 0 → ◌≡◌ {A = Checked} (record { refusal = Cycle; cycle = 0 }) (rows_check t)
-        unfolding beside
-        check_cycle z =
-            ⊎_elim
-            (λ p. absurd (omega (arith, cycle_some)))
-            (λ p. answered Cycle 0 (rw (lt-ltb 4096 _ p.0) at last) refl)
-            (capped_cases (cycle_of (used t)))
+      check_cycle : within_cycle (cycle_of (used t)) ≡ None → Err Cycle ≡ rows_check t
+      unfolding rows_check
+      check_cycle e =
+          ⊎_elim
+          (λ p. absurd (none-some _ (sym e ∙ p.1)))
+          (λ p. answer_err (rows_refusal t) (cycle_of (used t)) Cycle (last ∙ rw (lt-ltb 4096 _ p.0)))
+          (within_cases (cycle_of (used t)))
 
-        pub check_none : (c ≡ 0 → ⊥) → ◌≡◌ {A = Checked} (record { refusal = None; cycle = c }) (rows_check t)
-        check_none z =
-            ⊎_elim
-            (λ p. answered None c (rw (le-ltb 4096 _ p.0) at last) (g ∙ p.1 ∙ beside_none None _ refl))
-            (λ p. absurd (z (g ∙ p.1)))
-            (capped_cases (cycle_of (used t)))
+      check_none : (c : ℕ) → within_cycle (cycle_of (used t)) ≡ Some c → Ok c ≡ rows_check t
+      unfolding rows_check
+      check_none c e =
+          let w = within_is _ c e in
+          ap Ok w.1 ∙ answer_ok (rows_refusal t) (cycle_of (used t)) (last ∙ rw (le-ltb 4096 _ w.0))
+
+      pub check_last : ok_or (within_cycle (cycle_of (used t))) Cycle ≡ rows_check t
+      check_last =
+          ⊎_elim
+          (λ p. rw p.1 (check_none _ p.1))
+          (λ p. rw p.1 (check_cycle p.1))
+          (within_cases (cycle_of (used t)))
 
 -- ---- what an acceptance says of a table
 pub record Accepted (t : Table) : Type 0 where
@@ -102,16 +105,16 @@ module _ (t : Table) where
       let e₃ = none_later _ _ e₂ in
       let sound = faults_sound 1 blank (used t) (none_first _ _ e₃) in
       record {
-        some = pos_of_ne-zero (eqb-false t.n 0 (given_not (eqb t.n 0) Empty (omega arith) (none_first _ _ e)));
-        few = ltb-false 16 t.n (given_not (ltb 16 t.n) Many (omega arith) (none_first _ _ e₂));
+        some = pos_of_ne-zero (eqb-false t.n 0 (given_not (eqb t.n 0) Empty (none_first _ _ e)));
+        few = ltb-false 16 t.n (given_not (ltb 16 t.n) Many (none_first _ _ e₂));
         good = λ i l. (sound i l).0;
         order = λ i l. (sound (suc i) l).1;
-        cycle = ltb-false 4096 (cycle_of (used t)) (given_not (ltb 4096 (cycle_of (used t))) Cycle (omega arith) (none_later _ _ e₃));
+        cycle = ltb-false 4096 (cycle_of (used t)) (given_not (ltb 4096 (cycle_of (used t))) Cycle (none_later _ _ e₃));
       }
 
   pub rows_accepted : Accepted t → rows_refusal t ≡ None
   rows_accepted a =
-      sym (rw (le-ltb 4096 _ a.cycle) at (last t (ne_of_gt a.some) a.few None (sym (sound_faults 1 blank (used t) sound)) refl))
+      last t (ne_of_gt a.some) a.few (sound_faults 1 blank (used t) sound) ∙ rw (le-ltb 4096 _ a.cycle)
     where
       sound : Sound blank (used t)
       sound zero l = (a.good zero l, omega arith)
@@ -130,5 +133,5 @@ pub past_ignored : (t t' : Table) → t.n ≡ t'.n → used t ≡ used t' → ro
 unfolding rows_refusal
 past_ignored t t' n u = ap (λ (m : ℕ). of m (used t)) n ∙ ap (of t'.n) u
   where
-    of : ℕ → List Row → Refusal
+    of : ℕ → List Row → Option Refusal
     of m rs = or_else (given (eqb m 0) Empty) (or_else (given (ltb 16 m) Many) (or_else (faults_of 1 0 rs) (given (ltb 4096 (cycle_of rs)) Cycle)))

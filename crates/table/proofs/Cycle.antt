@@ -1,8 +1,8 @@
 -- The cycle is the least common multiple of the periods.
 -- Assumes nothing.
 use mathlib.Core.List.{List, [], ◌∷◌}
-use Prim.Native.Nat.{ℕ, zero, suc, ◌<◌, ◌∣◌}
-use native.Mathlib.Nat.{dvd_refl, dvd_trans, one-dvd, pos_of_dvd_of_pos}
+use Prim.Native.Nat.{ℕ, zero, suc, ◌≤◌, ◌<◌, ◌∣◌}
+use native.Mathlib.Nat.{dvd_refl, dvd_trans, one-dvd, pos_of_dvd_of_pos, le_of_dvd}
 use native.Mathlib.Omega.{arith}
 use lib.ListN.{length}
 use Rattle.table.specs.declared.Row.{Row}
@@ -39,6 +39,10 @@ unfolding fold_of
 fold_pos c [] p h = p
 fold_pos c (r ∷ rs) p h =
     fold_pos (lcm_of c r.period) rs (lcm_pos c r.period p (h 0 (omega arith))) (λ i l. h (suc i) (omega arith))
+
+-- no period makes it less
+pub fold_grows : (c : ℕ) (rs : List Row) → 0 < c → ((i : ℕ) → i < length rs → 0 < (row_at rs i).period) → c ≤ fold_of c rs
+fold_grows c rs p h = le_of_dvd (fold_pos c rs p h) (fold_first c rs)
 
 -- ---- the cycle: the periods divide it, it divides what they divide, and it is not 0
 module _ (rs : List Row) where

@@ -1,14 +1,14 @@
 -- What the refusals leave of a row, and back: a row with that much is not refused.
 -- Assumes nothing.
-use mathlib.Core.Path.{◌≡◌, sym}
+use mathlib.Core.Path.{◌≡◌}
 use mathlib.Core.Bool.{false}
 use mathlib.Mathlib.Data.Bool.Basic.{or-eq-false-eq-eq-false-and-eq-false as neither}
 use Prim.Native.Nat.{ℕ, ◌≤◌, ◌<◌}
-use native.Mathlib.Omega.{arith}
 use native.Mathlib.Nat.{pos_of_ne-zero, ne_of_gt}
-use borrow.Author.Tests.{eqb-false, ltb-false}
+use borrow.Author.Tests.{eqb-false, ltb-false, ne_eqb, le-ltb}
 use lib.Dec.{ltb}
-use Rattle.refusal.specs.declared.Refusal.TheVariants.{None, Zero, Long, Order}
+use Rattle.refusal.specs.declared.Refusal.TheVariants.{Zero, Long, Order}
+use Rattle.std.specs.Prelude.{None}
 use Rattle.refusal.proofs.Order.{none_first, none_later, given_not}
 use Rattle.table.specs.declared.Row.{Row}
 use Rattle.table.specs.Check.{is_zero, is_long, fault_of}
@@ -26,9 +26,9 @@ module _ (k before : ℕ) (r : Row) where
   unfolding fault_of
   fault_good e =
       let rest = none_later _ _ e in
-      let zero : is_zero r ≡ false = given_not (is_zero r) (Zero k) (omega arith) (none_first _ _ e) in
-      let long : is_long r ≡ false = given_not (is_long r) (Long k) (omega arith) (none_first _ _ rest) in
-      let order = given_not (ltb r.period before) (Order k) (omega arith) (none_later _ _ rest) in
+      let zero : is_zero r ≡ false = given_not (is_zero r) (Zero k) (none_first _ _ e) in
+      let long : is_long r ≡ false = given_not (is_long r) (Long k) (none_first _ _ rest) in
+      let order = given_not (ltb r.period before) (Order k) (none_later _ _ rest) in
       let z = (neither _ _).0 zero in
       let y = (neither _ _).0 z.0 in
       let l = (neither _ _).0 long in (
@@ -44,4 +44,6 @@ module _ (k before : ℕ) (r : Row) where
 
   pub good_fault : Good r → before ≤ r.period → fault_of k before r ≡ None
   good_fault g l =
-      sym (fault_none k before r (ne_of_gt g.period) (ne_of_gt g.primary) (ne_of_gt g.alternate) g.primary_fits g.alternate_fits l)
+      let zero : is_zero r ≡ false = simp (ne_eqb _ _ (ne_of_gt g.period), ne_eqb _ _ (ne_of_gt g.primary), ne_eqb _ _ (ne_of_gt g.alternate)) in
+      let long : is_long r ≡ false = simp (le-ltb _ _ g.primary_fits, le-ltb _ _ g.alternate_fits) in
+      fault_none k before r zero long l

@@ -1,6 +1,6 @@
 -- The rows of a table, and the cycle.
 -- Assumes nothing: these are definitions.
-use Rattle.std.specs.Prelude.{ℕ, List, [], ◌∷◌, take, get_or}
+use Rattle.std.specs.Prelude.{ℕ, List, [], ◌∷◌, take, get_or, cond, leb, Option, Some, None}
 use Rattle.table.specs.declared.Row.{Row}
 use Rattle.table.specs.declared.Table.{Table}
 use Rattle.table.specs.Gcd.{lcm_of}
@@ -24,3 +24,7 @@ fold_of c (r ∷ rs) = fold_of (lcm_of c r.period) rs
 -- 'The cycle is the least common multiple of the periods'
 unfoldable pub cycle_of : List Row → ℕ
 cycle_of rs = fold_of 1 rs
+
+-- 'the cycle is over 4,096' is a refusal: a number of slots that a cycle may have
+abbrev pub within_cycle : ℕ → Option ℕ
+within_cycle m = cond (leb m 4096) (Some m) None

@@ -1,15 +1,16 @@
 // Rows, tables of rows and their cycle, with the refusals of a table that come before the reservation rule.
 #![tactic(auto)]
 
-ghost use Rattle.std.specs.Prelude.{◌≡◌, cond, ◌≤◌, leb};
+ghost use Rattle.std.specs.Prelude.{◌≡◌, ℕ, ◌≤◌, ◌<◌, length};
+ghost use Rattle.refusal.specs.Order.{verdict};
 ghost use Rattle.table.specs.Gcd.{gcd_of, lcm_of};
-ghost use Rattle.table.specs.Rows.{used, cycle_of};
-ghost use Rattle.table.specs.Check.{fault_of, faults_of, rows_check};
+ghost use Rattle.table.specs.Rows.{used, row_at, cycle_of, within_cycle};
+ghost use Rattle.table.specs.Check.{is_zero, is_long, fault_of, faults_of, rows_check};
 
 use refusal::Refusal;
 
 // A periodic task: its period, and the times of its primary and of its alternate, in slots.
-#[derive(Clone, Copy)]
+#[derive(Clone, Copy, Debug, PartialEq, Eq)]
 pub struct Row {
     pub period: u16,
     pub primary: u16,
@@ -17,17 +18,21 @@ pub struct Row {
 }
 
 // The first n places are the table's rows, and the others are ignored, whatever they hold.
-#[derive(Clone, Copy)]
+// A count beside an array and no `Vec`: the project has no heap, and a count over 16 is to be refused by 2.
+#[derive(Clone, Copy, Debug, PartialEq, Eq)]
 pub struct Table {
     pub n: u8,
     pub rows: [Row; 16],
 }
 
-// The answer of a check: a refusal, and beside an acceptance the cycle, else 0.
-#[derive(Clone, Copy)]
-pub struct Checked {
-    pub refusal: Refusal,
-    pub cycle: u16,
+impl Table {
+    // The table's rows: its first n places, or all sixteen where n is over.
+    pub fn rows(&self) -> &[Row]
+        ensures rows { result.now ≡ used self.now }
+        ensures few { length result.now ≤ 16 }
+    {
+        &self.rows[..(self.n as usize).min(16)]
+    }
 }
 
 // Euclid's rule.
@@ -37,113 +42,80 @@ pub fn gcd(x: u16, y: u16) -> u16
     if y == 0 { x } else { gcd(y, x % y) }
 }
 
-// The least common multiple of c and p, and 0 where that is over 4,096. Then the cycle of periods that are not 0 is over too, and 0 stays 0.
-fn join(c: u16, p: u16) -> u16
-    ensures { result ≡ cond (leb (lcm_of c p) 4096) (lcm_of c p) 0 }
+// The least common multiple of c and p, where it is at most 4,096.
+fn join(c: u16, p: u16) -> Option<u16>
+    requires { 0 < p }
+    ensures { result ≡ within_cycle (lcm_of c p) }
 {
-    let g = gcd(c, p);
-    if g == 0 {
-        return 0;
-    }
-    let m = (c / g) as u32 * p as u32;
-    if m <= 4096 { m as u16 } else { 0 }
+    let m = (c / gcd(c, p)) as u32 * p as u32;
+    if m <= 4096 { Some(m as u16) } else { None }
+}
+
+// A period or a time of 0.
+fn is_zero(r: Row) -> bool
+    ensures { result ≡ is_zero r }
+{
+    r.period == 0 || r.primary == 0 || r.alternate == 0
+}
+
+// A time over the period.
+fn is_long(r: Row) -> bool
+    ensures { result ≡ is_long r }
+{
+    r.period < r.primary || r.period < r.alternate
 }
 
 // The first refusal of one row, the k-th, after a row with the period before.
-fn fault(k: u8, before: u16, r: Row) -> Refusal
-    ensures { result ≡ fault_of k before r }
+fn fault(k: u8, before: u16, r: Row) -> Result<(), Refusal>
+    ensures { result ≡ verdict (fault_of k before r) }
 {
-    if r.period == 0 {
-        Refusal::Zero(k)
-    } else if r.primary == 0 {
-        Refusal::Zero(k)
-    } else if r.alternate == 0 {
-        Refusal::Zero(k)
-    } else if r.period < r.primary {
-        Refusal::Long(k)
-    } else if r.period < r.alternate {
-        Refusal::Long(k)
+    if is_zero(r) {
+        Err(Refusal::Zero(k))
+    } else if is_long(r) {
+        Err(Refusal::Long(k))
     } else if r.period < before {
-        Refusal::Order(k)
+        Err(Refusal::Order(k))
     } else {
-        Refusal::None
+        Ok(())
     }
 }
 
 // The first refusal of the rows, from the first.
-fn faults(t: Table) -> Refusal
-    requires { t.n ≤ 16 }
-    ensures { result ≡ faults_of 1 0 (used t) }
+fn faults(rows: &[Row]) -> Result<(), Refusal>
+    requires { length rows.now ≤ 16 }
+    ensures { result ≡ verdict (faults_of 1 0 rows.now) }
 {
-    let n = t.n;
-    let mut i: u8 = 0;
     let mut before: u16 = 0;
-    while i < n {
-        let at = i as usize;
-        let r = t.rows[at];
-        let f = fault(i + 1, before, r);
-        match f {
-            Refusal::None => {}
-            _ => return f,
-        }
-        before = r.period;
-        i += 1;
+    for (i, row) in rows.iter().enumerate() {
+        fault(i as u8 + 1, before, *row)?;
+        before = row.period;
     }
-    Refusal::None
+    Ok(())
 }
 
-// The cycle where it is at most 4,096, and 0 where it is over.
-fn fold(t: Table) -> u16
-    requires { t.n ≤ 16 }
-    ensures { result ≡ cond (leb (cycle_of (used t)) 4096) (cycle_of (used t)) 0 }
+// The cycle, where it is at most 4,096.
+fn fold(rows: &[Row]) -> Option<u16>
+    requires { (i : ℕ) → i < length rows.now → 0 < (row_at rows.now i).period }
+    ensures { result ≡ within_cycle (cycle_of rows.now) }
 {
-    let n = t.n;
-    let mut i: u8 = 0;
     let mut c: u16 = 1;
-    while i < n {
-        let at = i as usize;
-        let r = t.rows[at];
-        c = join(c, r.period);
-        i += 1;
+    for row in rows {
+        c = join(c, row.period)?;
     }
-    c
+    Some(c)
 }
 
-// Refusals 1 to 6 of a table given as rows, and its cycle.
-pub fn check_rows(t: Table) -> Checked
+// Refusals 1 to 6 of a table given as rows, or its cycle.
+pub fn check_rows(t: Table) -> Result<u16, Refusal>
     ensures { result ≡ rows_check t }
 {
     if t.n == 0 {
-        return Checked {
-            refusal: Refusal::Empty,
-            cycle: 0,
-        };
+        return Err(Refusal::Empty);
     }
     if 16 < t.n {
-        return Checked {
-            refusal: Refusal::Many,
-            cycle: 0,
-        };
+        return Err(Refusal::Many);
     }
-    let f = faults(t);
-    match f {
-        Refusal::None => {
-            let c = fold(t);
-            if c == 0 {
-                Checked {
-                    refusal: Refusal::Cycle,
-                    cycle: 0,
-                }
-            } else {
-                Checked {
-                    refusal: Refusal::None,
-                    cycle: c,
-                }
-            }
-        }
-        _ => Checked {
-            refusal: f,
-            cycle: 0,
-        },
-    }
+    let rows = t.rows();
+    faults(rows)?;
+    fold(rows).ok_or(Refusal::Cycle)
 }

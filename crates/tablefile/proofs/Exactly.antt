@@ -1,5 +1,6 @@
 -- When each refusal of a table file is given. What specs/Exactly says of a refusal brings it about (`given_if`), and of every file it says something of some refusal (`some_gives`).
 -- Assumes nothing.
+use Rattle.std.specs.Prelude.{Option, Some, None}
 use mathlib.Core.Path.{◌≡◌, refl, sym, ◌∙◌}
 use mathlib.Core.Logic.{◌⊎◌, inl, inr, ◌↔◌, ◌≢◌, ⊎_elim}
 use mathlib.Core.Bool.{false}
@@ -11,7 +12,7 @@ use borrow.Author.Tests.{eqb-true, eqb-false}
 use lib.Dec.{eqb}
 use lib.ListN.{length}
 use Rattle.refusal.specs.declared.Refusal.{Refusal}
-use Rattle.refusal.specs.declared.Refusal.TheVariants.{None, Empty, Many, Zero, Long, Order, Cycle, Tight, Size, Version, Dosing, Record, Report, Room, Spans, Stray}
+use Rattle.refusal.specs.declared.Refusal.TheVariants.{Empty, Many, Zero, Long, Order, Cycle, Tight, Size, Version, Dosing, Record, Report, Room, Spans, Stray}
 use Rattle.refusal.specs.Order.{accepted, or_else}
 use Rattle.refusal.proofs.Order.{passes}
 use Rattle.rule.proofs.Tests.{split, side}
@@ -32,108 +33,108 @@ module _ (s : List ℕ) where
   n = count_byte s
 
   -- a refusal of the head is the file's
-  by_head : (f : Refusal) → accepted f ≡ false → f ≡ head_refusal s → file_refusal s ≡ f
+  by_head : (f : Option Refusal) → accepted f ≡ false → head_refusal s ≡ f → file_refusal s ≡ f
   unfolding file_refusal or_else
-  by_head f a e = rw (sym e, a)
+  by_head f a e = rw (e, a)
 
   -- as the code asks it
   field : Matched s → length_field s + 2 ≡ length s
   field m = omega (arith, m.0, m.1)
 
-  given_unmatched : Unmatched s → file_refusal s ≡ Size
-  given_unmatched (inl l) = by_head Size refl (head_under s l)
+  given_unmatched : Unmatched s → file_refusal s ≡ Some Size
+  given_unmatched (inl l) = by_head (Some Size) refl (head_under s l)
   given_unmatched (inr d) =
-      ⊎_elim (λ (l : length s < 4). by_head Size refl (head_under s l)) (λ (l : 4 ≤ length s). by_head Size refl (head_differs s l (length_field s) refl (λ e. d (omega arith)))) (side (length s) 4)
+      ⊎_elim (λ (l : length s < 4). by_head (Some Size) refl (head_under s l)) (λ (l : 4 ≤ length s). by_head (Some Size) refl (head_differs s l (length_field s) refl (λ e. d (omega arith)))) (side (length s) 4)
 
-  given_version : Matched s → version_byte s ≢ 1 → file_refusal s ≡ Version
-  given_version w d = by_head Version refl (head_version s w.0 (length_field s) refl (field w) (version_byte s) refl d)
+  given_version : Matched s → version_byte s ≢ 1 → file_refusal s ≡ Some Version
+  given_version w d = by_head (Some Version) refl (head_version s w.0 (length_field s) refl (field w) (version_byte s) refl d)
 
   module _ (v : Versioned s) where
-    given_empty : n ≡ 0 → file_refusal s ≡ Empty
-    given_empty e = by_head Empty refl (head_empty s v.0.0 (length_field s) refl (field v.0) (version_byte s) refl v.1 n refl e)
+    given_empty : n ≡ 0 → file_refusal s ≡ Some Empty
+    given_empty e = by_head (Some Empty) refl (head_empty s v.0.0 (length_field s) refl (field v.0) (version_byte s) refl v.1 n refl e)
 
-    given_many : 16 < n → file_refusal s ≡ Many
-    given_many l = by_head Many refl (head_many s v.0.0 (length_field s) refl (field v.0) (version_byte s) refl v.1 n refl (λ z. omega arith) l)
+    given_many : 16 < n → file_refusal s ≡ Some Many
+    given_many l = by_head (Some Many) refl (head_many s v.0.0 (length_field s) refl (field v.0) (version_byte s) refl v.1 n refl (λ z. omega arith) l)
 
     module _ (c : Counted (table_from s)) where
-      given_size : (RightLength s → ⊥) → file_refusal s ≡ Size
+      given_size : (RightLength s → ⊥) → file_refusal s ≡ Some Size
       unfolding table_from
-      given_size d = by_head Size refl (head_size s v.0.0 (length_field s) refl (field v.0) (version_byte s) refl v.1 n refl (ne_of_gt c.0) c.1 d)
+      given_size d = by_head (Some Size) refl (head_size s v.0.0 (length_field s) refl (field v.0) (version_byte s) refl v.1 n refl (ne_of_gt c.0) c.1 d)
 
       -- after the head, what the table gives
-      given_rows : RightLength s → (f : Refusal) → TableGives (table_from s) f → file_refusal s ≡ f
+      given_rows : RightLength s → (f : Option Refusal) → TableGives (table_from s) f → file_refusal s ≡ f
       unfolding table_from file_refusal
       given_rows l f g =
           let h = head_none s v.0.0 (length_field s) refl (field v.0) (version_byte s) refl v.1 n refl (ne_of_gt c.0) c.1 l in
-          sym (passes (head_refusal s) (table_refusal (table_from s)) (sym h)) ∙ (table_gives (table_from s) f).1 g
+          sym (passes (head_refusal s) (table_refusal (table_from s)) h) ∙ (table_gives (table_from s) f).1 g
 
   -- nothing gives the variants that have no clause here
-  given_if : (f : Refusal) → FileGives s f → file_refusal s ≡ f
+  given_if : (f : Option Refusal) → FileGives s f → file_refusal s ≡ f
   unfolding FileGives TableGives RowsGives table_from
   given_if None g = given_rows g.0.0 g.1.0.0 g.0.1 None g.1
-  given_if Empty g = given_empty g.0 g.1
-  given_if Many g = given_many g.0 g.1
-  given_if (Zero k) g = given_rows g.0.0 g.1.counted g.0.1 (Zero k) g.1
-  given_if (Long k) g = given_rows g.0.0 g.1.counted g.0.1 (Long k) g.1
-  given_if (Order k) g = given_rows g.0.0 g.1.counted g.0.1 (Order k) g.1
-  given_if Cycle g = given_rows g.0.0 g.1.0 g.0.1 Cycle g.1
-  given_if (Tight k) g = given_rows g.0.0 g.1.0.0 g.0.1 (Tight k) g.1
-  given_if Size (inl c) = given_unmatched c
-  given_if Size (inr g) = given_size g.0 g.1 g.2
-  given_if Version g = given_version g.0 g.1
-  given_if Room g = elim g [ ]
-  given_if Record g = elim g [ ]
-  given_if Report g = elim g [ ]
-  given_if Stray g = elim g [ ]
-  given_if Dosing g = elim g [ ]
-  given_if Spans g = elim g [ ]
+  given_if (Some Empty) g = given_empty g.0 g.1
+  given_if (Some Many) g = given_many g.0 g.1
+  given_if (Some (Zero k)) g = given_rows g.0.0 g.1.counted g.0.1 (Some (Zero k)) g.1
+  given_if (Some (Long k)) g = given_rows g.0.0 g.1.counted g.0.1 (Some (Long k)) g.1
+  given_if (Some (Order k)) g = given_rows g.0.0 g.1.counted g.0.1 (Some (Order k)) g.1
+  given_if (Some Cycle) g = given_rows g.0.0 g.1.0 g.0.1 (Some Cycle) g.1
+  given_if (Some (Tight k)) g = given_rows g.0.0 g.1.0.0 g.0.1 (Some (Tight k)) g.1
+  given_if (Some Size) (inl c) = given_unmatched c
+  given_if (Some Size) (inr g) = given_size g.0 g.1 g.2
+  given_if (Some Version) g = given_version g.0 g.1
+  given_if (Some Room) g = elim g [ ]
+  given_if (Some Record) g = elim g [ ]
+  given_if (Some Report) g = elim g [ ]
+  given_if (Some Stray) g = elim g [ ]
+  given_if (Some Dosing) g = elim g [ ]
+  given_if (Some Spans) g = elim g [ ]
 
   -- ---- of every file one of these things can be said
   abbrev SomeGives : Type 0
-  SomeGives = (f : Refusal) × FileGives s f
+  SomeGives = (f : Option Refusal) × FileGives s f
 
-  framed_gives : Framed s → (f : Refusal) → TableGives (table_from s) f → FileGives s f
+  framed_gives : Framed s → (f : Option Refusal) → TableGives (table_from s) f → FileGives s f
   unfolding FileGives TableGives
   framed_gives r None g = (r, g)
-  framed_gives r Empty g = (r.0, g)
-  framed_gives r Many g = (r.0, g)
-  framed_gives r (Zero k) g = (r, g)
-  framed_gives r (Long k) g = (r, g)
-  framed_gives r (Order k) g = (r, g)
-  framed_gives r Cycle g = (r, g)
-  framed_gives r (Tight k) g = (r, g)
-  framed_gives r Room g = elim g [ ]
-  framed_gives r Record g = elim g [ ]
-  framed_gives r Report g = elim g [ ]
-  framed_gives r Stray g = elim g [ ]
-  framed_gives r Size g = elim g [ ]
-  framed_gives r Version g = elim g [ ]
-  framed_gives r Dosing g = elim g [ ]
-  framed_gives r Spans g = elim g [ ]
+  framed_gives r (Some Empty) g = (r.0, g)
+  framed_gives r (Some Many) g = (r.0, g)
+  framed_gives r (Some (Zero k)) g = (r, g)
+  framed_gives r (Some (Long k)) g = (r, g)
+  framed_gives r (Some (Order k)) g = (r, g)
+  framed_gives r (Some Cycle) g = (r, g)
+  framed_gives r (Some (Tight k)) g = (r, g)
+  framed_gives r (Some Room) g = elim g [ ]
+  framed_gives r (Some Record) g = elim g [ ]
+  framed_gives r (Some Report) g = elim g [ ]
+  framed_gives r (Some Stray) g = elim g [ ]
+  framed_gives r (Some Size) g = elim g [ ]
+  framed_gives r (Some Version) g = elim g [ ]
+  framed_gives r (Some Dosing) g = elim g [ ]
+  framed_gives r (Some Spans) g = elim g [ ]
 
   versioned_gives : Versioned s → SomeGives
   unfolding FileGives TableGives RowsGives table_from
   versioned_gives v =
-      ⊎_elim (λ (e : n ≡ 0). (Empty, (v, e)))
+      ⊎_elim (λ (e : n ≡ 0). (Some Empty, (v, e)))
       (λ (p : 0 < n).
-      ⊎_elim (λ (l : 16 < n). (Many, (v, l)))
+      ⊎_elim (λ (l : 16 < n). (Some Many, (v, l)))
       (λ (l : n ≤ 16).
       ⊎_elim (λ (e : RightLength s).
       let f = table_refusal (table_from s) in
       (f, framed_gives (v, e) f ((table_gives (table_from s) f).0 refl)))
-      (λ d. (Size, inr (v, (p, l), d))) (same (length_field s) (length_for n))) (side 16 n))
+      (λ d. (Some Size, inr (v, (p, l), d))) (same (length_field s) (length_for n))) (side 16 n))
       (eq-zero-or-pos n)
 
   some_gives : SomeGives
   unfolding FileGives
   some_gives =
-      ⊎_elim (λ (l : length s < 4). (Size, inl (inl l)))
+      ⊎_elim (λ (l : length s < 4). (Some Size, inl (inl l)))
       (λ (l : 4 ≤ length s).
       ⊎_elim (λ (e : length_field s ≡ following s).
-      ⊎_elim (λ (v : version_byte s ≡ 1). versioned_gives ((l, e), v)) (λ d. (Version, ((l, e), d))) (same (version_byte s) 1))
-      (λ d. (Size, inl (inr d))) (same (length_field s) (following s)))
+      ⊎_elim (λ (v : version_byte s ≡ 1). versioned_gives ((l, e), v)) (λ d. (Some Version, ((l, e), d))) (same (version_byte s) 1))
+      (λ d. (Some Size, inl (inr d))) (same (length_field s) (following s)))
       (side (length s) 4)
 
 -- 'Order for a file': each number exactly when document 01 says and no earlier one applies
-pub file_gives : (s : List ℕ) (f : Refusal) → (file_refusal s ≡ f) ↔ FileGives s f
+pub file_gives : (s : List ℕ) (f : Option Refusal) → (file_refusal s ≡ f) ↔ FileGives s f
 file_gives s = exact (FileGives s) (given_if s) (some_gives s)

@@ -1,5 +1,6 @@
 -- The bytes of a table are read back to its rows, and the table of an accepted file has the file's bytes.
 -- Assumes nothing.
+use Rattle.std.specs.Prelude.{None, Ok}
 use mathlib.Core.Path.{◌≡◌, refl, sym, ◌∙◌, ap, ap₂}
 use mathlib.Core.List.{List, [], ◌∷◌, ◌++◌}
 use Prim.Native.Nat.{ℕ, zero, suc, ◌+◌, ◌-◌, ◌*◌, ◌/◌, ◌%◌, ◌≤◌, ◌<◌}
@@ -7,18 +8,15 @@ use native.Mathlib.Omega.{arith}
 use native.Mathlib.Nat.{div-add-mod', ne_of_gt}
 use lib.ListN.{length, replicate, length-append, length-replicate}
 use lib.Seq.{take_at}
-use Rattle.refusal.specs.declared.Refusal.{Refusal}
-use Rattle.refusal.specs.declared.Refusal.TheVariants.{None}
-use Rattle.refusal.proofs.Order.{passes, none_first, none_later}
+use Rattle.refusal.proofs.Order.{passes, none_first, none_later, ok_none, ok_figure}
 use Rattle.table.specs.declared.Row.{Row}
 use Rattle.table.specs.declared.Table.{Table}
 use Rattle.table.specs.Rows.{used, blank}
 use Rattle.table.proofs.Check.{used_count}
 use Rattle.reserve.specs.Check.{table_refusal}
 use Rattle.reserve.proofs.Verdict.{table_accepted, refusal_past}
-use Rattle.tablefile.specs.declared.Reading.{Reading}
 use Rattle.tablefile.specs.Layout.{length_for, word_bytes, row_bytes, rows_bytes, file_bytes, count_byte, word_at, row_from, rows_from, padded, table_from}
-use Rattle.tablefile.specs.Answers.{head_refusal, file_refusal, hands_back, read_as}
+use Rattle.tablefile.specs.Answers.{head_refusal, file_refusal, read_as}
 use Rattle.tablefile.specs.RoundTrips.{Places, Bytes, zeroed}
 use Rattle.tablefile.proofs.FileLayout.{rows_count, file_size, rows_shift}
 use Rattle.tablefile.proofs.HeadCases.{head_none, Headed, headed}
@@ -70,7 +68,7 @@ module _ (t : Table) (places : Places t) (a : table_refusal t ≡ None) where
   file_head =
       let size = file_size t places few in
       let word : word_at (file_bytes t) 0 ≡ length_for t.n = div-add-mod' (length_for t.n) 256 in
-      sym (head_none (file_bytes t) (omega arith) (length_for t.n) (sym word) (omega arith) 1 refl refl t.n refl (ne_of_gt (table_accepted t a).some) few refl)
+      head_none (file_bytes t) (omega arith) (length_for t.n) (sym word) (omega arith) 1 refl refl t.n refl (ne_of_gt (table_accepted t a).some) few refl
 
   file_rows : rows_from (file_bytes t) 4 t.n ≡ used t
   unfolding file_bytes word_bytes
@@ -88,9 +86,9 @@ module _ (t : Table) (places : Places t) (a : table_refusal t ≡ None) where
   file_accepted =
       sym (passes (head_refusal (file_bytes t)) (table_refusal (table_from (file_bytes t))) file_head) ∙ ap table_refusal file_table ∙ zeroed_accepted
 
-  pub read_back : read_as (file_bytes t) ≡ record { refusal = None; table = zeroed t }
-  unfolding read_as hands_back
-  read_back = ap₂ (λ (f : Refusal) (u : Table). record { refusal = f; table = hands_back f u }) file_accepted file_table
+  pub read_back : read_as (file_bytes t) ≡ Ok (zeroed t)
+  unfolding read_as
+  read_back = rw (file_accepted, file_table)
 
 -- ---- the bytes of the rows of bytes
 bytes_back : (n : ℕ) (s : List ℕ) → length s ≡ 6 * n → Bytes s → rows_bytes (rows_from s 0 n) ≡ s
@@ -136,27 +134,29 @@ file_back (x₀ ∷ x₁ ∷ x₂ ∷ x₃ ∷ s) b h =
     ∙ bytes_back x₃ s l (λ k. b (suc (suc (suc (suc k))))) in
     cc
 
-module _ (s : List ℕ) (a : file_refusal s ≡ None) where
+-- ---- a table that was read
+module _ (s : List ℕ) (t : Table) (e : read_as s ≡ Ok t) where
+  accepted_file : file_refusal s ≡ None
+  unfolding read_as
+  accepted_file = ok_none (file_refusal s) (table_from s) t e
+
+  is_held : table_from s ≡ t
+  unfolding read_as
+  is_held = ok_figure (file_refusal s) (table_from s) t e
+
   read_head : Headed s
   unfolding file_refusal
-  read_head = headed s (none_first _ _ a)
+  read_head = headed s (none_first _ _ accepted_file)
 
-  pub read_accepted : table_refusal (read_as s).table ≡ None
-  unfolding read_as hands_back file_refusal
-  read_accepted = ap (λ (f : Refusal). table_refusal (hands_back f (table_from s))) a ∙ none_later _ _ a
+  -- it is accepted
+  pub was_read : table_refusal t ≡ None
+  unfolding file_refusal
+  was_read = ap table_refusal (sym is_held) ∙ none_later _ _ accepted_file
 
-  pub read_places : Places (read_as s).table
-  unfolding read_as hands_back table_from
+  pub read_places : Places t
+  unfolding table_from
   read_places =
-      ap (λ (f : Refusal). length (hands_back f (table_from s)).rows) a ∙ padded_places (count_byte s) (rows_from s 4 (count_byte s)) (rows_count s 4 (count_byte s)) read_head.few
+      ap (λ (u : Table). length u.rows) (sym is_held) ∙ padded_places (count_byte s) (rows_from s 4 (count_byte s)) (rows_count s 4 (count_byte s)) read_head.few
 
-  pub written_back : Bytes s → file_bytes (read_as s).table ≡ s
-  unfolding read_as hands_back
-  written_back b = ap (λ (f : Refusal). file_bytes (hands_back f (table_from s))) a ∙ file_back s b read_head
-
--- the table of a reading that refuses nothing is accepted
-pub was_read : (s : List ℕ) (got : Reading) → got ≡ read_as s → got.refusal ≡ None → table_refusal got.table ≡ None
-unfolding read_as
-was_read s got e d =
-    let a : file_refusal s ≡ None = ap (λ (g : Reading). g.refusal) (sym e) ∙ d in
-    ap (λ (g : Reading). table_refusal g.table) e ∙ read_accepted s a
+  pub written_back : Bytes s → file_bytes t ≡ s
+  written_back b = ap file_bytes (sym is_held) ∙ file_back s b read_head

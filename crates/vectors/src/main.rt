@@ -1,8 +1,6 @@
 // Reads cases from standard input, calls the library's public entries on them, and prints every answer (docs/VECTORS.md).
 #![tactic(auto)]
 
-ghost use Rattle.std.specs.Prelude.{◌≤◌, length};
-
 mod called;
 mod form;
 mod print;
@@ -12,20 +10,6 @@ const STDIN_FILENO: i32 = 0;
 
 pub(crate) const STDOUT_FILENO: i32 = 1;
 
-// Reads so many bytes of the input to the start of a buffer, and answers how many there were.
-fn take_in(body: &mut [u8], size: usize) -> usize
-    requires { size ≤ length body.old }
-{
-    io::read_full(STDIN_FILENO, &mut body[..size])
-}
-
-// The answer of the case whose body is at the start of a buffer.
-fn answer_first(body: &[u8], size: usize)
-    requires { size ≤ length body.now }
-{
-    called::answer(&body[..size]);
-}
-
 // The body of a case whose length is known, and its answer. Answers whether there may be another case.
 fn one_body(size: usize) -> bool {
     if 16384 < size {
@@ -33,12 +17,12 @@ fn one_body(size: usize) -> bool {
         return false;
     }
     let mut body = [0u8; 16384];
-    let n = take_in(&mut body, size);
+    let n = io::read_full(STDIN_FILENO, &mut body[..size]);
     if n < size {
         print::text(b"cut off\n");
         return false;
     }
-    answer_first(&body, size);
+    called::answer(&body[..size]);
     true
 }
 
@@ -57,15 +41,11 @@ fn one_case() -> bool {
     one_body(size)
 }
 
-// Case after case, to the input's end. Nothing says that an input ends, so the cases are counted down from more than any machine answers.
+// Case after case, to the input's end. Nothing says that an input ends, so the cases are counted, up to more than any machine answers.
 fn main() {
-    let mut more: u64 = 1152921504606846976;
-    while 0 < more {
-        let going = one_case();
-        if going {
-            more -= 1;
-        } else {
-            more = 0;
+    for _ in 0..1152921504606846976u64 {
+        if !one_case() {
+            return;
         }
     }
 }

@@ -5,8 +5,8 @@ use Rattle.bagreport.proofs.report.Goals as goal
 pub admitted-requires : goal.admitted-requires
 admitted-requires c = (search (fresh_none), search (fresh_start))
 
-pub returns-in_default-clause-answer : goal.returns-in_default-clause-answer
-returns-in_default-clause-answer c = search (table_told, c.in_default.not-None)
+pub returns-in-Some-clause-answer : goal.returns-in-Some-clause-answer
+returns-in-Some-clause-answer c = search (table_told)
 
-pub returns-in_default-clause-bytes : goal.returns-in_default-clause-bytes
-returns-in_default-clause-bytes c = search (table_kept, c.in_default.not-None)
+pub returns-in-Some-clause-bytes : goal.returns-in-Some-clause-bytes
+returns-in-Some-clause-bytes c = search (table_kept)

@@ -1,10 +1,10 @@
 -- `bags::report_on` meets its contract.
 use native.Mathlib.Omega.{arith}
-use Rattle.bags.proofs.Parts.{part_is, part_half, rows_few}
+use Rattle.bags.proofs.Parts.{rows_few}
 use Rattle.bags.proofs.report_on.Goals as goal
 
-pub slice_bounds-print_report-end : goal.slice_bounds-print_report-end
-slice_bounds-print_report-end c = part_is _ _ (omega (arith, c.lend_marks-got.ensures))
+pub slice_bounds-marks-end : goal.slice_bounds-marks-end
+slice_bounds-marks-end c = omega arith
 
 pub print_report-requires : goal.print_report-requires
-print_report-requires c = (search (rows_few), search (part_half))
+print_report-requires c = search (rows_few)

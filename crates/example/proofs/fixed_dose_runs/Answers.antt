@@ -1,6 +1,8 @@
 -- `example::fixed_dose_runs` meets its contract.
-use Rattle.example.proofs.Told.{told}
+use Rattle.std.proofs.Common.{rules}
+use Rattle.example.specs.FixedDose.{fixed_dose}
 use Rattle.example.proofs.fixed_dose_runs.Goals as goal
 
 pub returns : goal.returns
-returns c = search (told)
+unfolding fixed_dose
+returns c = search rules

@@ -1,9 +1,7 @@
--- `replay::replay`: what its loop keeps, and what falls at each turn.
-use Rattle.replay.proofs.Replaying.{Replaying}
+-- `replay::replay`: what its loop keeps.
+use Prim.Native.Nat.{◌*◌}
+use Rattle.replay.specs.Turns.{Replayed}
 use Rattle.replay.proofs.replay.Given as goal
 
-abbrev pub invariant-loop-chunks : goal.invariant-loop-chunks
-invariant-loop-chunks l = Replaying l.t l.p l.reports l.out l.chunks
-
-abbrev pub decreases-loop-chunks : goal.decreases-loop-chunks
-decreases-loop-chunks l = l.chunks
+abbrev pub invariant-loop : goal.invariant-loop
+invariant-loop l = Replayed l.fn.t (1024 * l.counter) l.p

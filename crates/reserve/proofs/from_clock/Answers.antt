@@ -1,13 +1,10 @@
 -- `reserve::from_clock` meets its contract.
-use Rattle.reserve.proofs.Verdict.{rows_ready}
+use Rattle.std.proofs.Common.{rules}
 use Rattle.reserve.proofs.FromClock.{from_refused, from_none}
 use Rattle.reserve.proofs.from_clock.Goals as goal
 
-pub down-swept-requires : goal.down-swept-requires
-down-swept-requires c = search (rows_ready)
+pub returns-in_err-cycled : goal.returns-in_err-cycled
+returns-in_err-cycled c = search (rules, from_refused)
 
-pub returns-in-None : goal.returns-in-None
-returns-in-None c = search (from_none)
-
-pub returns-in_default : goal.returns-in_default
-returns-in_default c = search (from_refused, c.in_default.not-None)
+pub returns : goal.returns
+returns c = search (rules, from_none)

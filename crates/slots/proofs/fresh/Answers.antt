@@ -1,12 +1,11 @@
 -- `slots::fresh` meets its contract.
-use Rattle.slots.proofs.AnswerCases.{fresh_few, fresh_none, fresh_refused}
+use mathlib.Core.Path.{sym, ◌∙◌}
+use Rattle.std.proofs.Common.{rules}
+use Rattle.slots.proofs.AnswerCases.{fresh_none, fresh_refused}
 use Rattle.slots.proofs.fresh.Goals as goal
 
-pub fresh_jobs-requires : goal.fresh_jobs-requires
-fresh_jobs-requires c = search (fresh_few)
+pub returns-in-Ok : goal.returns-in-Ok
+returns-in-Ok c = search (rules, fresh_none)
 
-pub returns-in-None : goal.returns-in-None
-returns-in-None c = search (fresh_none)
-
-pub returns-in_default : goal.returns-in_default
-returns-in_default c = search (fresh_refused, c.in_default.not-None)
+pub returns-in-Err : goal.returns-in-Err
+returns-in-Err c = fresh_refused _ c.in-Err.f (sym c.check.ensures ∙ c.in-Err.is) _ c.no_jobs.ensures _ c.start_with-in-Err.ensures

@@ -1,13 +1,11 @@
 -- `slots::fresh_jobs` meets its contract.
-use Rattle.table.proofs.Lists.{long}
-use Rattle.slots.proofs.EntryLoops.{freshening_start, freshening_step, freshening_end}
+use Rattle.slots.specs.Records.{fresh_jobs}
+use Rattle.slots.proofs.EntryLoops.{fresh_more}
 use Rattle.slots.proofs.fresh_jobs.Goals as goal
 
 pub loop-i-init : goal.loop-i-init
-loop-i-init c = search (freshening_start)
+unfolding fresh_jobs
+loop-i-init c = c.no_jobs-jobs.ensures
 
 pub loop-i-preserved : goal.loop-i-preserved
-loop-i-preserved c = search (freshening_step)
-
-pub returns : goal.returns
-returns c = search (freshening_end, long)
+loop-i-preserved c = search (fresh_more)

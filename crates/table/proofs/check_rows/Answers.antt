@@ -1,6 +1,7 @@
 -- `table::check_rows` meets its contract: each return is a case of the answer.
 use native.Mathlib.Omega.{arith}
-use Rattle.table.proofs.Check.{check_empty, check_many, check_fault, check_cycle, check_none}
+use Rattle.std.proofs.Common.{rules}
+use Rattle.table.proofs.Check.{check_empty, check_many, check_fault, periods, check_last}
 use Rattle.table.proofs.check_rows.Goals as goal
 
 pub returns-then-t-eq0 : goal.returns-then-t-eq0
@@ -9,11 +10,11 @@ returns-then-t-eq0 c = search (check_empty)
 pub returns-then-t-gt16 : goal.returns-then-t-gt16
 returns-then-t-gt16 c = check_many _ (omega arith)
 
-pub returns-then-c-eq0 : goal.returns-then-c-eq0
-returns-then-c-eq0 c = search (check_cycle)
+pub returns-in_err-faults : goal.returns-in_err-faults
+returns-in_err-faults c = search (rules, check_fault)
 
-pub returns-else-c-eq0 : goal.returns-else-c-eq0
-returns-else-c-eq0 c = search (check_none)
+pub fold-requires : goal.fold-requires
+fold-requires c = search (rules, periods)
 
-pub returns-in_default : goal.returns-in_default
-returns-in_default c = search (check_fault, c.in_default.not-None)
+pub returns : goal.returns
+returns c = search (rules, check_last)

@@ -1,18 +1,13 @@
 -- `table::faults` meets its contract.
-use mathlib.Core.Path.{refl}
-use native.Mathlib.Omega.{arith}
-use Rattle.table.proofs.Lists.{long}
+use Rattle.std.proofs.Common.{rules}
 use Rattle.table.proofs.FaultCases.{faults_go, faults_stop, faults_end}
 use Rattle.table.proofs.faults.Goals as goal
 
-pub loop-i-init : goal.loop-i-init
-loop-i-init c = (omega arith, refl)
-
-pub returns-in_default : goal.returns-in_default
-returns-in_default c = search (faults_stop, long, c.in_default.not-None)
+pub returns-in_err-fault : goal.returns-in_err-fault
+returns-in_err-fault c = search (rules, faults_stop)
 
 pub loop-i-preserved : goal.loop-i-preserved
-loop-i-preserved c = (omega arith, search (faults_go, long))
+loop-i-preserved c = search (rules, faults_go)
 
 pub returns : goal.returns
 returns c = search (faults_end)

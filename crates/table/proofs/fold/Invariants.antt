@@ -1,13 +1,9 @@
--- `table::fold`. The loop's invariant: capped, the cycle is the fold from c of the rows from i on. The measure is the number of rows left.
+-- `table::fold`. The loop's invariant: the cycle is the fold from c of the rows from the loop's place on.
 use mathlib.Core.Path.{◌≡◌}
-use Prim.Native.Nat.{◌-◌, ◌≤◌}
+use Prim.Native.Nat.{◌≤◌, ◌<◌}
 use lib.ListN.{drop}
-use Rattle.table.specs.Rows.{used, fold_of, cycle_of}
-use Rattle.table.proofs.Capped.{capped}
+use Rattle.table.specs.Rows.{fold_of, cycle_of}
 use Rattle.table.proofs.fold.Given as goal
 
-abbrev pub invariant-loop-i : goal.invariant-loop-i
-invariant-loop-i l = (l.i ≤ l.n) × (l.c ≤ 4096) × (capped (cycle_of (used l.t)) ≡ capped (fold_of l.c (drop l.i (used l.t))))
-
-abbrev pub decreases-loop-i : goal.decreases-loop-i
-decreases-loop-i l = l.n - l.i
+abbrev pub invariant-loop-row : goal.invariant-loop-row
+invariant-loop-row l = (0 < l.c) × (l.c ≤ 4096) × (cycle_of l.rows ≡ fold_of l.c (drop l.row-index l.rows))

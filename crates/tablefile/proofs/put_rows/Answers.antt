@@ -1,13 +1,9 @@
 -- `tablefile::put_rows` meets its contract.
-use Rattle.table.proofs.Lists.{long}
-use Rattle.tablefile.proofs.WriteCases.{put_start, put_step, put_end}
+use Rattle.tablefile.proofs.WriteCases.{put_start, put_step}
 use Rattle.tablefile.proofs.put_rows.Goals as goal
 
 pub loop-i-init : goal.loop-i-init
 loop-i-init c = put_start _ _
 
 pub loop-i-preserved : goal.loop-i-preserved
-loop-i-preserved c = search (put_step, long)
-
-pub returns : goal.returns
-returns c = search (put_end)
+loop-i-preserved c = search (put_step)

@@ -1,12 +1,16 @@
 -- `tablefile::read` meets its contract.
-use Rattle.tablefile.proofs.ReadCases.{read_refused, read_few, read_judged}
+use Rattle.std.proofs.Common.{rules}
+use Rattle.tablefile.proofs.ReadCases.{read_refused, read_few, rows_refused, read_table}
 use Rattle.tablefile.proofs.read.Goals as goal
 
+pub returns-in_err-n : goal.returns-in_err-n
+returns-in_err-n c = search (rules, read_refused)
+
 pub rows_from-rows-requires : goal.rows_from-rows-requires
-rows_from-rows-requires c = search (read_few)
+rows_from-rows-requires c = search (rules, read_few)
 
-pub returns-in-None : goal.returns-in-None
-returns-in-None c = search (read_judged)
+pub returns-in_err-check : goal.returns-in_err-check
+returns-in_err-check c = search (rules, rows_refused)
 
-pub returns-in_default : goal.returns-in_default
-returns-in_default c = search (read_refused, c.in_default.not-None)
+pub returns : goal.returns
+returns c = search (rules, read_table)

@@ -1,12 +1,16 @@
 -- `tablefile::rows_from` meets its contract.
-use Rattle.tablefile.proofs.ReadCases.{rows_start, rows_step, rows_end}
+use mathlib.Core.Path.{refl}
+use native.Mathlib.Omega.{arith}
+use Rattle.tablefile.specs.Layout.{rows_from}
+use Rattle.tablefile.proofs.ReadCases.{rows_step, rows_end}
 use Rattle.tablefile.proofs.rows_from.Goals as goal
 
 pub loop-i-init : goal.loop-i-init
-loop-i-init c = search (rows_start)
+unfolding rows_from
+loop-i-init c = refl
 
 pub loop-i-preserved : goal.loop-i-preserved
-loop-i-preserved c = search (rows_step)
+loop-i-preserved c = rows_step _ _ _ c.loop-i.invariant (omega (arith, c.loop-i-test.true, c.loop-i.auto.row-items)) _ c.row_from.ensures
 
 pub returns : goal.returns
-returns c = search (rows_end)
+returns c = rows_end _ _ _ _ c.loop-i.invariant _ c.zeros.ensures c.requires c.loop-i.auto.row-items (omega (arith, c.loop-i.auto.i-end, c.loop-i-test.false))

@@ -1,10 +1,8 @@
--- `bagreport::due::to_nearest_end`: what its loop keeps, and what falls at each turn.
-use Prim.Native.Nat.{◌-◌}
-use Rattle.bagreport.proofs.NearestEnd.{Nearing}
+-- `bagreport::due::to_nearest_end`. The loop's invariant: no window of the rows so far ends nearer.
+use Prim.Native.Nat.{ℕ, ◌+◌, ◌≤◌, ◌<◌}
+use Rattle.table.specs.Rows.{row_at}
+use Rattle.table.specs.Windows.{window_end}
 use Rattle.bagreport.proofs.due.to_nearest_end.Given as goal
 
-abbrev pub invariant-loop-i : goal.invariant-loop-i
-invariant-loop-i l = Nearing l.t l.s l.nearest l.i
-
-abbrev pub decreases-loop-i : goal.decreases-loop-i
-decreases-loop-i l = l.n - l.i
+abbrev pub invariant-loop-row : goal.invariant-loop-row
+invariant-loop-row l = (0 < l.nearest) × ((k : ℕ) → k < l.row-index → l.s + l.nearest ≤ window_end (row_at l.fn.rows k) l.s)

@@ -14,6 +14,3 @@ returns-clause-next c = let pre = c.requires in
 pub returns-clause-told : goal.returns-clause-told
 returns-clause-told c = let pre = c.requires in
     let called = c.run.ensures in chunk_told pre.0 _ pre.1 _ _ pre.2 pre.3 _ called.answer _ called.bytes (search rules)
-
-pub returns-clause-sizes : goal.returns-clause-sizes
-returns-clause-sizes c = (search rules, search rules)

@@ -1,12 +1,18 @@
 -- `bagreport::told::told` meets its contract.
-use Rattle.bagreport.proofs.ToldCases.{told_idle, told_primary, told_alternate}
+use native.Mathlib.Omega.{arith}
+use borrow.Author.Rules.{rules}
+use Rattle.slots.proofs.SlotCases.{byte_idle, byte_primary, byte_alternate}
+use Rattle.bagreport.specs.Turns.{told_by}
 use Rattle.bagreport.proofs.told.told.Goals as goal
 
-pub returns-then-ran-eq0 : goal.returns-then-ran-eq0
-returns-then-ran-eq0 c = search (told_idle)
+pub returns-in-0 : goal.returns-in-0
+unfolding told_by
+returns-in-0 c = rw (byte_idle c.args.ran c.in-0.is)
 
-pub returns-then-ran-le16 : goal.returns-then-ran-le16
-returns-then-ran-le16 c = search (told_primary)
+pub returns-in-1-to-16 : goal.returns-in-1-to-16
+unfolding told_by
+returns-in-1-to-16 c = rw (byte_primary c.args.ran (λ z. omega arith) (omega arith)) (search rules)
 
-pub returns : goal.returns
-returns c = search (told_alternate)
+pub returns-in-17-to-255 : goal.returns-in-17-to-255
+unfolding told_by
+returns-in-17-to-255 c = rw (byte_alternate c.args.ran (omega arith)) (search rules)

@@ -1,12 +1,13 @@
 -- `bags::lines::of_kind` meets its contract.
-use Rattle.bags.proofs.Figures.{counted_start, counted_step, counted_end, counted_few}
+use mathlib.Core.Path.{◌≡◌, sym, ◌∙◌}
+use Prim.Native.Nat.{ℕ}
+use lib.Dec.{eqb}
+use borrow.Author.Rules.{rules}
+use Rattle.std.specs.List.{count_by}
+use Rattle.bags.proofs.Figures.{kind_counts}
 use Rattle.bags.proofs.lines.of_kind.Goals as goal
 
-pub loop-i-init : goal.loop-i-init
-loop-i-init c = counted_start
-
-pub loop-i-preserved : goal.loop-i-preserved
-loop-i-preserved c = search (counted_step)
-
 pub returns : goal.returns
-returns c = (search (counted_end), search (counted_few))
+returns c =
+    let counted : c.count.result ≡ count_by (λ (mark : ℕ). eqb mark c.args.kind) c.args.marks.now = search rules in
+    counted ∙ sym (kind_counts c.args.kind c.args.marks.now)

@@ -1,7 +1,6 @@
 -- `replay::chunk::put_chunk` meets its contract.
 use mathlib.Core.Path.{sym}
-use native.Mathlib.Omega.{arith}
-use Rattle.replay.proofs.ChunkCases.{slots_rise, log_room, lines_count, lines_few, few_slots, lines_laid}
+use Rattle.replay.proofs.ChunkCases.{slots_rise, log_room, lines_count, lines_laid}
 use borrow.Author.Rules.{rules}
 use Rattle.replay.proofs.chunk.put_chunk.Goals as goal
 
@@ -13,9 +12,6 @@ slice_bounds-log-end c = log_room _ _ _ _ c.onward-after.ensures.answer _ _ c.on
 
 pub slice_bounds-put_lines-end : goal.slice_bounds-put_lines-end
 slice_bounds-put_lines-end c = sym (lines_count _ _ _ _ c.onward-after.ensures.answer _ _ c.onward-after.ensures.bytes)
-
-pub put_lines-used-requires : goal.put_lines-used-requires
-put_lines-used-requires c = let few = lines_few _ _ _ _ c.onward-after.ensures.answer _ _ c.onward-after.ensures.bytes in (omega (arith, c.requires.2), omega (arith, c.requires.2, few_slots _ c.requires.0 _ c.requires.1))
 
 pub returns-clause-text : goal.returns-clause-text
 returns-clause-text c = search (lines_laid)

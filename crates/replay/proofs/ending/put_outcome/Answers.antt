@@ -5,5 +5,5 @@ use Rattle.replay.proofs.ending.put_outcome.Goals as goal
 pub returns-in-None-clause-text : goal.returns-in-None-clause-text
 returns-in-None-clause-text c = search (ran_laid)
 
-pub returns-in_default-clause-text : goal.returns-in_default-clause-text
-returns-in_default-clause-text c = search (refused_laid, c.in_default.not-None)
+pub returns-in-Some-clause-text : goal.returns-in-Some-clause-text
+returns-in-Some-clause-text c = search (refused_laid)

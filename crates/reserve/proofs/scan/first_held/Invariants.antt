@@ -1,10 +1,6 @@
 -- `reserve::scan::first_held`. The loop's invariant: the slots passed are not the row's.
-use Prim.Native.Nat.{◌-◌}
 use Rattle.reserve.proofs.Scanning.{Missed}
 use Rattle.reserve.proofs.scan.first_held.Given as goal
 
 abbrev pub invariant-loop-s : goal.invariant-loop-s
 invariant-loop-s l = Missed l.list l.row l.from l.to l.s
-
-abbrev pub decreases-loop-s : goal.decreases-loop-s
-decreases-loop-s l = l.to - l.s

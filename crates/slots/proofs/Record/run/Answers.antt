@@ -1,16 +1,17 @@
 -- `slots::Record::run` meets its contract.
+use Rattle.std.proofs.Common.{rules}
 use Rattle.slots.proofs.Admittance.{admitted_steady}
 use Rattle.slots.proofs.AnswerCases.{ran_refused, log_refused, buffer_refused}
 use Rattle.slots.proofs.Record.run.Goals as goal
 
 pub run_admitted-requires : goal.run_admitted-requires
-run_admitted-requires c = search (admitted_steady)
+run_admitted-requires c = search (rules, admitted_steady)
 
-pub returns-in_default-clause-answer : goal.returns-in_default-clause-answer
-returns-in_default-clause-answer c = search (ran_refused, c.in_default.not-None)
+pub returns-in-Err-clause-answer : goal.returns-in-Err-clause-answer
+returns-in-Err-clause-answer c = search (rules, ran_refused)
 
-pub returns-in_default-clause-bytes : goal.returns-in_default-clause-bytes
-returns-in_default-clause-bytes c = search (log_refused, c.in_default.not-None)
+pub returns-in-Err-clause-bytes : goal.returns-in-Err-clause-bytes
+returns-in-Err-clause-bytes c = search (rules, log_refused)
 
-pub returns-in_default-clause-kept : goal.returns-in_default-clause-kept
-returns-in_default-clause-kept c = search (buffer_refused, c.in_default.not-None)
+pub returns-in-Err-clause-kept : goal.returns-in-Err-clause-kept
+returns-in-Err-clause-kept c = search (rules, buffer_refused)

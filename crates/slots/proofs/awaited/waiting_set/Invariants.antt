@@ -1,9 +1,7 @@
--- `slots::awaited::waiting_set`: what its loop keeps, and what falls at each turn.
+-- `slots::awaited::waiting_set`. The loop's invariant: x is the set of the rows so far, from the last one down.
+use lib.ListN.{length}
 use Rattle.slots.proofs.SetLaws.{Built}
 use Rattle.slots.proofs.awaited.waiting_set.Given as goal
 
-abbrev pub invariant-loop-i : goal.invariant-loop-i
-invariant-loop-i l = Built l.jobs l.n l.i l.x
-
-abbrev pub decreases-loop-i : goal.decreases-loop-i
-decreases-loop-i l = l.i
+abbrev pub invariant-loop-job : goal.invariant-loop-job
+invariant-loop-job l = Built l.fn.jobs l.n (length l.yielded) l.x

@@ -4,6 +4,3 @@ use Rattle.slots.proofs.buffer.hold.Given as goal
 
 abbrev pub invariant-loop-s : goal.invariant-loop-s
 invariant-loop-s l = Holding l.row l.first l.end l.units l.initial.out l.out l.s l.left
-
-abbrev pub decreases-loop-s : goal.decreases-loop-s
-decreases-loop-s l = l.s

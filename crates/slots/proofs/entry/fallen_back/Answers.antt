@@ -1,12 +1,9 @@
 -- `slots::entry::fallen_back` meets its contract.
-use Rattle.slots.proofs.EntryCases.{back_waiting, back_failed, back_done}
+use Rattle.std.proofs.Common.{arith}
+use Rattle.std.proofs.lemmas.Grind.{common_steps}
+use Rattle.slots.specs.OneSlot.{on_alternate}
 use Rattle.slots.proofs.entry.fallen_back.Goals as goal
 
-pub returns-in-Waiting : goal.returns-in-Waiting
-returns-in-Waiting c = search (back_waiting)
-
-pub returns-in-Failed : goal.returns-in-Failed
-returns-in-Failed c = search (back_failed)
-
-pub returns-in-Done : goal.returns-in-Done
-returns-in-Done c = search (back_done)
+pub returns : goal.returns
+unfolding on_alternate
+returns c = grind (arith, common_steps)

@@ -1,6 +1,8 @@
 -- `slots::entry::new_job` meets its contract.
-use Rattle.slots.proofs.EntryCases.{starts_new}
+use mathlib.Core.Path.{refl}
+use Rattle.slots.specs.Records.{new_job}
 use Rattle.slots.proofs.entry.new_job.Goals as goal
 
 pub returns : goal.returns
-returns c = search (starts_new)
+unfolding new_job
+returns c = refl

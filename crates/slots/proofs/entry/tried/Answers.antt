@@ -1,15 +1,21 @@
 -- `slots::entry::tried` meets its contract.
-use Rattle.slots.proofs.EntryCases.{tried_over, tried_on, tried_done, tried_failed}
+use Rattle.std.proofs.Common.{arith}
+use Rattle.std.proofs.lemmas.Grind.{common_steps}
+use Rattle.slots.specs.OneSlot.{on_primary}
 use Rattle.slots.proofs.entry.tried.Goals as goal
 
-pub returns-then-run-r : goal.returns-then-run-r
-returns-then-run-r c = search (tried_over)
+pub returns-in-0 : goal.returns-in-0
+unfolding on_primary
+returns-in-0 c = grind (arith, common_steps)
 
-pub returns-else-run-r : goal.returns-else-run-r
-returns-else-run-r c = search (tried_on)
+pub returns-in-0-2 : goal.returns-in-0-2
+unfolding on_primary
+returns-in-0-2 c = grind (arith, common_steps)
 
 pub returns-in-1 : goal.returns-in-1
-returns-in-1 c = search (tried_done)
+unfolding on_primary
+returns-in-1 c = grind (arith, common_steps)
 
 pub returns-in-2-to-255 : goal.returns-in-2-to-255
-returns-in-2-to-255 c = search (tried_failed)
+unfolding on_primary
+returns-in-2-to-255 c = grind (arith, common_steps)

@@ -1,6 +1,5 @@
 -- `slots::listed::run_admitted` meets its contract.
-use borrow.Author.Rules.{rules}
-use Rattle.slots.proofs.AnswerCases.{ran_room, log_room, buffer_room, buffer_long, ran_done, log_done, buffer_done}
+use Rattle.slots.proofs.AnswerCases.{ran_room, log_room, buffer_room, ran_done, log_done, buffer_done}
 use Rattle.slots.proofs.listed.run_admitted.Goals as goal
 
 pub returns-then-lacks_room-clause-answer : goal.returns-then-lacks_room-clause-answer
@@ -11,9 +10,6 @@ returns-then-lacks_room-clause-bytes c = search (log_room)
 
 pub returns-then-lacks_room-clause-kept : goal.returns-then-lacks_room-clause-kept
 returns-then-lacks_room-clause-kept c = search (buffer_room)
-
-pub run_list-course-requires : goal.run_list-course-requires
-run_list-course-requires c = (search rules, search (buffer_long))
 
 pub returns-clause-answer : goal.returns-clause-answer
 returns-clause-answer c = ran_done c.requires _ _ _ _ c.lacks_room.ensures c.if-lacks_room.false _ _ c.run_list-course.ensures.course

@@ -1,4 +1,4 @@
--- `slots::listed::run_stretches`: what its loop keeps, and what falls at each turn.
+-- `slots::listed::run_stretches`: what its loops keep, and what falls at each turn of the two over the list.
 use Prim.Native.Nat.{◌-◌}
 use lib.ListN.{length}
 use Rattle.slots.proofs.Renewals.{Renewal}
@@ -14,9 +14,6 @@ decreases-loop-i-2 l = length l.reports - l.i
 
 abbrev pub invariant-loop-k : goal.invariant-loop-k
 invariant-loop-k l = Renewal l.t l.cycle l.clock l.initial.jobs l.jobs l.waiting l.opens l.k
-
-abbrev pub decreases-loop-k : goal.decreases-loop-k
-decreases-loop-k l = l.k
 
 abbrev pub invariant-loop-i : goal.invariant-loop-i
 invariant-loop-i l = Coursing l.t l.cycle l.reports l.initial.log l.initial.kept l.initial.jobs l.initial.clock l.initial.lost l.initial.i l.log l.kept l.jobs l.clock l.waiting l.opens l.lost l.i

@@ -1,10 +1,6 @@
--- `slots::opening::next_opening`: what its loop keeps, and what falls at each turn.
-use Prim.Native.Nat.{◌-◌}
+-- `slots::opening::next_opening`. The loop's invariant: no window of the rows so far opens before `opens`.
 use Rattle.slots.proofs.Openings.{Opening}
 use Rattle.slots.proofs.opening.next_opening.Given as goal
 
-abbrev pub invariant-loop-i : goal.invariant-loop-i
-invariant-loop-i l = Opening l.t l.cycle l.s l.opens l.i
-
-abbrev pub decreases-loop-i : goal.decreases-loop-i
-decreases-loop-i l = l.n - l.i
+abbrev pub invariant-loop-row : goal.invariant-loop-row
+invariant-loop-row l = Opening l.fn.t l.cycle l.s l.row-items l.opens l.row-index

@@ -1,17 +1,19 @@
 -- `slots::slot::after_clock` meets its contract.
-use Rattle.table.proofs.Lists.{long}
-use Rattle.reserve.proofs.Ready.{few, period_some}
-use Rattle.slots.proofs.EntryLoops.{renewing_start, renewing_step, renewing_end}
+use mathlib.Core.Path.{refl}
+use Prim.Native.Nat.{◌<◌}
+use native.Mathlib.Omega.{arith}
+use lib.ListN.{length}
+use Rattle.slots.specs.OneSlot.{renewed}
+use Rattle.slots.proofs.Openings.{row_period}
+use Rattle.slots.proofs.EntryLoops.{renewed_more}
 use Rattle.slots.proofs.slot.after_clock.Goals as goal
 
 pub loop-i-init : goal.loop-i-init
-loop-i-init c = search (renewing_start, few)
+unfolding renewed
+loop-i-init c = refl
 
 pub come-requires : goal.come-requires
-come-requires c = search (period_some, long)
+come-requires c = search (row_period)
 
 pub loop-i-preserved : goal.loop-i-preserved
-loop-i-preserved c = search (renewing_step)
-
-pub returns : goal.returns
-returns c = search (renewing_end, long)
+loop-i-preserved c = let room : c.loop-i.i < length c.args.jobs = omega arith in search (renewed_more)

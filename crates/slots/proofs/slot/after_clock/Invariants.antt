@@ -1,10 +1,8 @@
--- `slots::slot::after_clock`: what its loop keeps, and what falls at each turn.
-use Prim.Native.Nat.{◌-◌}
-use Rattle.slots.proofs.EntryLoops.{Renewing}
+-- `slots::slot::after_clock`. The loop's invariant: the entries of the rows so far are those as the clock comes to c.
+use mathlib.Core.Path.{◌≡◌}
+use lib.ListN.{take}
+use Rattle.slots.specs.OneSlot.{renewed}
 use Rattle.slots.proofs.slot.after_clock.Given as goal
 
 abbrev pub invariant-loop-i : goal.invariant-loop-i
-invariant-loop-i l = Renewing l.t l.c l.jobs l.next l.i
-
-abbrev pub decreases-loop-i : goal.decreases-loop-i
-decreases-loop-i l = l.n - l.i
+invariant-loop-i l = l.next ≡ renewed l.c (take l.i l.row-items) l.jobs

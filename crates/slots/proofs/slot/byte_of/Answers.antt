@@ -1,9 +1,13 @@
 -- `slots::slot::byte_of` meets its contract.
-use Rattle.slots.proofs.SlotCases.{byte_free, byte_held}
+use Rattle.std.proofs.Common.{arith}
+use Rattle.std.proofs.lemmas.Grind.{common_steps}
+use Rattle.slots.specs.OneSlot.{byte_of}
 use Rattle.slots.proofs.slot.byte_of.Goals as goal
 
 pub returns-then-holder-eq0 : goal.returns-then-holder-eq0
-returns-then-holder-eq0 c = search (byte_free)
+unfolding byte_of
+returns-then-holder-eq0 c = grind (arith, common_steps)
 
 pub returns-else-holder-eq0 : goal.returns-else-holder-eq0
-returns-else-holder-eq0 c = search (byte_held)
+unfolding byte_of
+returns-else-holder-eq0 c = grind (arith, common_steps)

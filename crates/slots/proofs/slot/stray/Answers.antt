@@ -1,12 +1,15 @@
 -- `slots::slot::stray` meets its contract.
-use Rattle.slots.proofs.SlotCases.{stray_idle, stray_none, stray_alternate}
+use Rattle.std.proofs.Common.{arith}
+use Rattle.std.proofs.lemmas.Grind.{common_steps}
+use Rattle.refusal.specs.Order.{or_else}
+use Rattle.slots.specs.Reports.{report_refusal}
+use Rattle.slots.specs.History.{work_of}
 use Rattle.slots.proofs.slot.stray.Goals as goal
 
-pub returns-then-ran-eq0 : goal.returns-then-ran-eq0
-returns-then-ran-eq0 c = search (stray_idle)
-
 pub returns-then-ran-le16 : goal.returns-then-ran-le16
-returns-then-ran-le16 c = search (stray_none)
+unfolding work_of or_else report_refusal
+returns-then-ran-le16 c = grind (arith, common_steps)
 
-pub returns-else-ran-le16 : goal.returns-else-ran-le16
-returns-else-ran-le16 c = search (stray_alternate)
+pub returns-else-ran-gt0 : goal.returns-else-ran-gt0
+unfolding work_of or_else report_refusal
+returns-else-ran-gt0 c = grind (arith, common_steps)

@@ -1,12 +1,18 @@
 -- `slots::turn::entry_of` meets its contract.
-use Rattle.slots.proofs.TurnCases.{place_idle, place_primary, place_alternate}
+use Rattle.std.proofs.Common.{arith}
+use Rattle.std.proofs.lemmas.Grind.{common_steps}
+use Rattle.slots.specs.History.{work_of}
+use Rattle.slots.specs.Turns.{entry_of}
 use Rattle.slots.proofs.turn.entry_of.Goals as goal
 
 pub returns-then-ran-eq0 : goal.returns-then-ran-eq0
-returns-then-ran-eq0 c = search (place_idle)
+unfolding work_of entry_of
+returns-then-ran-eq0 c = grind (arith, common_steps)
 
 pub returns-then-ran-le16 : goal.returns-then-ran-le16
-returns-then-ran-le16 c = search (place_primary)
+unfolding work_of entry_of
+returns-then-ran-le16 c = grind (arith, common_steps)
 
 pub returns-else-ran-le16 : goal.returns-else-ran-le16
-returns-else-ran-le16 c = search (place_alternate)
+unfolding work_of entry_of
+returns-else-ran-le16 c = grind (arith, common_steps)

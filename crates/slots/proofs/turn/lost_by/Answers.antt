@@ -1,15 +1,14 @@
 -- `slots::turn::lost_by` meets its contract.
-use Rattle.slots.proofs.TurnCases.{lost_primary, lost_waiting, lost_failed, lost_done}
+use Rattle.std.proofs.Common.{arith}
+use Rattle.std.proofs.lemmas.Grind.{common_steps}
+use Rattle.slots.specs.History.{work_of}
+use Rattle.slots.specs.Turns.{loss_by}
 use Rattle.slots.proofs.turn.lost_by.Goals as goal
 
-pub returns-then-ran-le16 : goal.returns-then-ran-le16
-returns-then-ran-le16 c = search (lost_primary)
+pub returns-then-eq : goal.returns-then-eq
+unfolding work_of loss_by
+returns-then-eq c = grind (arith, common_steps)
 
-pub returns-in-Waiting : goal.returns-in-Waiting
-returns-in-Waiting c = search (lost_waiting)
-
-pub returns-in-Failed : goal.returns-in-Failed
-returns-in-Failed c = search (lost_failed)
-
-pub returns-in-Done : goal.returns-in-Done
-returns-in-Done c = search (lost_done)
+pub returns-else-ran-gt16 : goal.returns-else-ran-gt16
+unfolding work_of loss_by
+returns-else-ran-gt16 c = grind (arith, common_steps)

@@ -1,9 +1,0 @@
--- `bags::print_shares` meets its contract.
-use Prim.Native.Nat.{◌-◌, ◌≤◌}
-use Rattle.bags.proofs.print_shares.Given as goal
-
-abbrev pub invariant-loop-i : goal.invariant-loop-i
-invariant-loop-i l = l.i ≤ l.n
-
-abbrev pub decreases-loop-i : goal.decreases-loop-i
-decreases-loop-i l = l.n - l.i

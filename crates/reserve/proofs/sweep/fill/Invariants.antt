@@ -1,9 +1,0 @@
--- `reserve::sweep::fill`. The loop's invariant: the rests are ready for the next slot down, and the slots passed have their holders' bytes.
-use Rattle.reserve.proofs.Sweeps.{Sweeping, Filling}
-use Rattle.reserve.proofs.sweep.fill.Given as goal
-
-abbrev pub invariant-loop-s : goal.invariant-loop-s
-invariant-loop-s l = Sweeping l.t l.cycle 0 l.left l.rests l.s × Filling l.t l.cycle 0 l.left l.initial.out l.out l.s
-
-abbrev pub decreases-loop-s : goal.decreases-loop-s
-decreases-loop-s l = l.s

@@ -1,9 +1,0 @@
--- `vectors::form::record_of` meets its contract.
-use Prim.Native.Nat.{◌-◌, ◌≤◌}
-use Rattle.vectors.proofs.form.record_of.Given as goal
-
-abbrev pub invariant-loop-i : goal.invariant-loop-i
-invariant-loop-i l = l.i ≤ 16
-
-abbrev pub decreases-loop-i : goal.decreases-loop-i
-decreases-loop-i l = 16 - l.i

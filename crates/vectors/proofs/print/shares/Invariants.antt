@@ -1,9 +1,0 @@
--- `vectors::print::shares`: what its loop keeps, and what falls at each turn.
-use Prim.Native.Nat.{◌-◌, ◌≤◌}
-use Rattle.vectors.proofs.print.shares.Given as goal
-
-abbrev pub invariant-loop-i : goal.invariant-loop-i
-invariant-loop-i l = l.i ≤ 16
-
-abbrev pub decreases-loop-i : goal.decreases-loop-i
-decreases-loop-i l = 16 - l.i
