@@ -28,17 +28,15 @@ use Rattle.slots.specs.declared.Started.{Started}
 use Rattle.slots.specs.declared.Stepped.{Stepped}
 use Rattle.slots.specs.declared.Ran.{Ran}
 use Rattle.slots.specs.declared.Awaiting.{Awaiting}
-use Rattle.slots.specs.declared.slot.Admitted.{Admitted}
 use Rattle.slots.specs.Records.{no_job, fresh_jobs, fresh_of, fresh_record, started_for}
 use Rattle.slots.specs.Sound.{record_refusal}
-use Rattle.slots.specs.OneSlot.{reserved, unreserved, byte_of, what, lowest_waiting}
+use Rattle.slots.specs.OneSlot.{byte_of, what, lowest_waiting}
 use Rattle.slots.specs.WaitingSet.{waiting_set, waiting_count, awaiting_of}
 use Rattle.slots.specs.Reports.{report_refusal, Outcome, stopped, run_of}
 use Rattle.slots.specs.Answers.{asked_of, slot_under, stepped_by, entry_refusal, outcome_of, ran_by, log_after, reservations_of, buffer_after}
 use Rattle.slots.specs.Buffer.{Kept}
-use Rattle.slots.specs.Turns.{started_with, members_of, admitted_of, Steady, RunLeaves}
-use Rattle.slots.proofs.Admittance.{admitted_refusal, record_none, admitted_steady, admitted_held}
-use Rattle.slots.proofs.Settled.{stands_few, stands_holder, byte_is}
+use Rattle.slots.specs.Turns.{started_with, members_of, Steady, RunLeaves}
+use Rattle.slots.proofs.Settled.{stands_few}
 use Rattle.slots.proofs.SoundRecord.{sound_none}
 use Rattle.slots.proofs.RunFacts.{run_short}
 use Rattle.slots.proofs.KeptBuffer.{kept_is}
@@ -115,18 +113,18 @@ stopped_all t q reps old kept f h n =
 -- ---- the answers at a record
 module _ (t : Table) (q : Record) where
   -- a refusal before the slot
-  module _ (f : Refusal) (e : admitted_of t q ≡ Err f) where
+  module _ (f : Refusal) (e : record_refusal t q ≡ Some f) where
     pub asked_refused : Err f ≡ asked_of t q
     unfolding asked_of
-    asked_refused = answer_err (record_refusal t q) (byte_of (what (used t) q)) f (admitted_refusal t q f e)
+    asked_refused = answer_err (record_refusal t q) (byte_of (what (used t) q)) f e
 
     pub awaiting_refused : Err f ≡ awaiting_of t q
     unfolding awaiting_of
-    awaiting_refused = answer_err (record_refusal t q) _ f (admitted_refusal t q f e)
+    awaiting_refused = answer_err (record_refusal t q) _ f e
 
     pub stepped_refused : (report : ℕ) → ◌≡◌ {A = Stepped} (record { refusal = Some f; next = q; ran = 0 }) (stepped_by t q report)
     unfolding stepped_by slot_under or_else beside
-    stepped_refused report = rw (admitted_refusal t q f e) refl
+    stepped_refused report = rw e refl
 
     -- ---- a list of reports that is refused at the record
     module _ (reps old kept : List ℕ) where
@@ -134,7 +132,7 @@ module _ (t : Table) (q : Record) where
       unfolding entry_refusal or_else
       refused_all =
           stopped_all t q reps old kept (Some f)
-          (ap (λ (g : Option Refusal). or_else g (given (roomless t reps old kept) Room)) (admitted_refusal t q f e)) refl
+          (ap (λ (g : Option Refusal). or_else g (given (roomless t reps old kept) Room)) e) refl
 
       pub ran_refused : ◌≡◌ {A = Ran} (record { refusal = Some f; slots = 0; next = q }) (ran_by t q reps old kept)
       ran_refused = refused_all.answer
@@ -145,34 +143,23 @@ module _ (t : Table) (q : Record) where
       pub buffer_refused : kept ≡ buffer_after t q reps old kept
       buffer_refused = refused_all.left
 
-  -- none
-  module _ (a : Admitted) (e : admitted_of t q ≡ Ok a) where
-    none : record_refusal t q ≡ None
-    none = record_none t q a e
+-- none
+module _ {t : Table} {cycle : ℕ} {q : Record} (st : Steady t cycle q) where
+  none : record_refusal t q ≡ None
+  none = sound_none t q st.table st.sound
 
-    steady : Steady t a.cycle q
-    steady = admitted_steady t q a e
+  pub asked_none : (ran : ℕ) → ran ≡ byte_of (what (used t) q) → Ok ran ≡ asked_of t q
+  unfolding asked_of
+  asked_none ran h = ap Ok h ∙ answer_ok (record_refusal t q) (byte_of (what (used t) q)) none
 
-    pub answer_few : t.n ≤ 16
-    answer_few = stands_few steady
+  pub awaiting_none : length t.rows ≡ 16 → (m : Awaiting) → m ≡ members_of q.jobs t.n → Ok m ≡ awaiting_of t q
+  unfolding awaiting_of waiting_set lowest_waiting waiting_count members_of
+  awaiting_none f m g = let n : length (used t) ≡ t.n = used_count t f (stands_few st) in rw (none, n, g) refl
 
-    pub answer_holder : a.holder ≤ 16
-    answer_holder = stands_holder steady a.holder q.clock (admitted_held t q a e)
-
-    pub asked_none : length q.jobs ≡ 16 → length t.rows ≡ 16 → (m : Awaiting) → m ≡ members_of q.jobs t.n
-        → (ran : ℕ) → ran ≡ byte_of (reserved a.holder (unreserved m.row)) → Ok ran ≡ asked_of t q
-    unfolding asked_of
-    asked_none s f m g ran h =
-        ap Ok (byte_is steady s f a.holder (admitted_held t q a e) m g ran h) ∙ answer_ok (record_refusal t q) (byte_of (what (used t) q)) none
-
-    pub awaiting_none : length t.rows ≡ 16 → (m : Awaiting) → m ≡ members_of q.jobs t.n → Ok m ≡ awaiting_of t q
-    unfolding awaiting_of waiting_set lowest_waiting waiting_count members_of
-    awaiting_none f m g = let n : length (used t) ≡ t.n = used_count t f answer_few in rw (none, n, g) refl
-
-    pub stepped_none : (report : ℕ) (r : Stepped) → r ≡ slot_under (report_refusal (what (used t) q) report) (used t) q report → r ≡ stepped_by t q report
-    unfolding stepped_by
-    stepped_none report r h =
-        h ∙ ap (λ (f : Option Refusal). slot_under f (used t) q report) (passes (record_refusal t q) (report_refusal (what (used t) q) report) none)
+  pub stepped_none : (report : ℕ) (r : Stepped) → r ≡ slot_under (report_refusal (what (used t) q) report) (used t) q report → r ≡ stepped_by t q report
+  unfolding stepped_by
+  stepped_none report r h =
+      h ∙ ap (λ (f : Option Refusal). slot_under f (used t) q report) (passes (record_refusal t q) (report_refusal (what (used t) q) report) none)
 
 -- ---- a list of reports from a sound record, with a lent log that held `old` and a lent buffer that held `kept`
 module _ {t : Table} {cycle : ℕ} {q : Record} (st : Steady t cycle q) (reps old kept : List ℕ) (lacking : Bool)

@@ -19,20 +19,19 @@ use Rattle.slots.specs.Sound.{record_refusal}
 use Rattle.slots.specs.Reports.{run_of}
 use Rattle.slots.specs.History.{logged, reported}
 use Rattle.slots.specs.LostUnits.{lost_units, lost_refusal, lost_from, lost_fresh}
-use Rattle.slots.specs.Turns.{admitted_of, Steady, RunLeaves, lost_by}
+use Rattle.slots.specs.Turns.{Steady, RunLeaves, lost_by}
 use Rattle.slots.proofs.SoundRecord.{table_usable, sound_none}
 use Rattle.slots.proofs.LostSum.{lost_sum}
-use Rattle.slots.proofs.Admittance.{admitted_refusal}
 use Rattle.slots.proofs.Settled.{stands_sound}
 
 abbrev all_lost : Table → Record → List ℕ → ℕ
 all_lost t q reps = lost_units (used t) q (logged (run_of (used t) q reps).log) (reported reps) (length reps)
 
-pub lost_refused : (t : Table) (q : Record) (f : Refusal) → admitted_of t q ≡ Err f → (reps : List ℕ) → Err f ≡ lost_from t q reps
+pub lost_refused : (t : Table) (q : Record) (f : Refusal) → record_refusal t q ≡ Some f → (reps : List ℕ) → Err f ≡ lost_from t q reps
 unfolding lost_from lost_refusal or_else
 lost_refused t q f e reps =
     answer_err (lost_refusal t q reps) (all_lost t q reps) f
-    (ap (λ (g : Option Refusal). or_else g (run_of (used t) q reps).refusal) (admitted_refusal t q f e))
+    (ap (λ (g : Option Refusal). or_else g (run_of (used t) q reps).refusal) e)
 
 module _ {t : Table} {cycle : ℕ} {q : Record} (st : Steady t cycle q) where
   -- the cycle is no longer than the buffer

@@ -76,40 +76,39 @@ module _ {t : Table} {cycle : ℕ} {q : Record} (g : Steady t cycle q) where
         omega (arith, u, (rows.good i work_row).primary_fits, p, (table_accepted t g.table).cycle)
 
   -- ---- the byte that runs, from the holder and the waiting rows
-  module _ (sixteen : length q.jobs ≡ 16) (full : length t.rows ≡ 16) (holder : ℕ) (held : holder ≡ holder_at (used t) q q.clock)
-      (m : Awaiting) (found : m ≡ members_of q.jobs t.n) where
-    pub byte_is : (ran : ℕ) → ran ≡ byte_of (reserved holder (unreserved m.row)) → ran ≡ byte_of (what (used t) q)
-    unfolding what lowest_waiting members_of
-    byte_is ran e =
-        let n : length (used t) ≡ t.n = used_count t full stands_few in
-        let r : m.row ≡ first_row (waits q.jobs) (length (used t)) = ap (λ (x : Awaiting). x.row) found ∙ rw n refl in
-        e ∙ ap₂ (λ (h k : ℕ). byte_of (reserved h (unreserved k))) held r
+  pub byte_is : length t.rows ≡ 16 → (holder : ℕ) → holder ≡ holder_at (used t) q q.clock → (m : Awaiting) → m ≡ members_of q.jobs t.n
+      → (ran : ℕ) → ran ≡ byte_of (reserved holder (unreserved m.row)) → ran ≡ byte_of (what (used t) q)
+  unfolding what lowest_waiting members_of
+  byte_is full holder held m found ran e =
+      let n : length (used t) ≡ t.n = used_count t full stands_few in
+      let r : m.row ≡ first_row (waits q.jobs) (length (used t)) = ap (λ (x : Awaiting). x.row) found ∙ rw n refl in
+      e ∙ ap₂ (λ (h k : ℕ). byte_of (reserved h (unreserved k))) held r
 
-    pub runs_what : (ran : ℕ) → ran ≡ byte_of (reserved holder (unreserved m.row)) → work_of ran ≡ what (used t) q
-    runs_what ran e = ap work_of (byte_is ran e) ∙ what_byte (used t) rows.few q
+  module _ (ran : ℕ) (is : ran ≡ byte_of (what (used t) q)) where
+    runs_what : work_of ran ≡ what (used t) q
+    runs_what = ap work_of is ∙ what_byte (used t) rows.few q
 
-    module _ (ran : ℕ) (is : ran ≡ byte_of (reserved holder (unreserved m.row))) where
-      pub stands_workable : Workable t q.jobs ran
-      stands_workable = record {
-        few = omega (arith, stands_few);
-        row = omega (arith, ap entry_of (runs_what ran is), work_row full, used_count t full stands_few);
-        small = subst (λ (w : Work). (job_at q.jobs (entry_of w)).run < 65535) (sym (runs_what ran is)) (work_small full sixteen);
-      }
+    pub stands_workable : length q.jobs ≡ 16 → length t.rows ≡ 16 → Workable t q.jobs ran
+    stands_workable sixteen full = record {
+      few = omega (arith, stands_few);
+      row = omega (arith, ap entry_of runs_what, work_row full, used_count t full stands_few);
+      small = subst (λ (w : Work). (job_at q.jobs (entry_of w)).run < 65535) (sym runs_what) (work_small full sixteen);
+    }
 
-      module _ (report : ℕ) where
-        is_refusal : report_refusal (what (used t) q) report ≡ report_refusal (work_of ran) report
-        is_refusal = ap (λ (w : Work). report_refusal w report) (sym (runs_what ran is))
+    module _ (report : ℕ) where
+      is_refusal : report_refusal (what (used t) q) report ≡ report_refusal (work_of ran) report
+      is_refusal = ap (λ (w : Work). report_refusal w report) (sym runs_what)
 
-        pub settled_none : (u : Unit) → verdict (report_refusal (work_of ran) report) ≡ Ok u → (next : Record) → next ≡ step_by (used t) q (work_of ran) report
-            → ◌≡◌ {A = Stepped} (record { refusal = None; next = next; ran = ran }) (slot_under (report_refusal (what (used t) q) report) (used t) q report)
-        unfolding slot_under step_of
-        settled_none u z next e =
-            let n : next ≡ step_by (used t) q (what (used t) q) report = e ∙ ap (λ (w : Work). step_by (used t) q w report) (runs_what ran is) in
-            let h : report_refusal (what (used t) q) report ≡ None = is_refusal ∙ ok_none _ tt u z in
-            rw (h, n)
-            (ap (λ (b : ℕ). record { refusal = None; next = step_by (used t) q (what (used t) q) report; ran = b }) (byte_is ran is ∙ beside_none None (byte_of (what (used t) q)) refl))
+      pub settled_none : (u : Unit) → verdict (report_refusal (work_of ran) report) ≡ Ok u → (next : Record) → next ≡ step_by (used t) q (work_of ran) report
+          → ◌≡◌ {A = Stepped} (record { refusal = None; next = next; ran = ran }) (slot_under (report_refusal (what (used t) q) report) (used t) q report)
+      unfolding slot_under step_of
+      settled_none u z next e =
+          let n : next ≡ step_by (used t) q (what (used t) q) report = e ∙ ap (λ (w : Work). step_by (used t) q w report) runs_what in
+          let h : report_refusal (what (used t) q) report ≡ None = is_refusal ∙ ok_none _ tt u z in
+          rw (h, n)
+          (ap (λ (b : ℕ). record { refusal = None; next = step_by (used t) q (what (used t) q) report; ran = b }) (is ∙ beside_none None (byte_of (what (used t) q)) refl))
 
-        pub settled_refused : (f : Refusal) → verdict (report_refusal (work_of ran) report) ≡ Err f
-            → ◌≡◌ {A = Stepped} (record { refusal = Some f; next = q; ran = 0 }) (slot_under (report_refusal (what (used t) q) report) (used t) q report)
-        unfolding slot_under beside
-        settled_refused f z = rw (is_refusal ∙ err_some _ tt f z) refl
+      pub settled_refused : (f : Refusal) → verdict (report_refusal (work_of ran) report) ≡ Err f
+          → ◌≡◌ {A = Stepped} (record { refusal = Some f; next = q; ran = 0 }) (slot_under (report_refusal (what (used t) q) report) (used t) q report)
+      unfolding slot_under beside
+      settled_refused f z = rw (is_refusal ∙ err_some _ tt f z) refl

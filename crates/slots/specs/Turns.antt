@@ -15,12 +15,11 @@ use Rattle.slots.specs.declared.Job.{Job}
 use Rattle.slots.specs.declared.Record.{Record}
 use Rattle.slots.specs.declared.Started.{Started}
 use Rattle.slots.specs.declared.Awaiting.{Awaiting}
-use Rattle.slots.specs.declared.slot.Admitted.{Admitted}
 use Rattle.slots.specs.declared.turn.Moved.{Moved}
 use Rattle.slots.specs.declared.turn.Turn.{Turn}
 use Rattle.slots.specs.Records.{job_at}
-use Rattle.slots.specs.Sound.{sound, record_refusal}
-use Rattle.slots.specs.OneSlot.{Work, idle, primary, alternate, holder_at, is_waiting, waits, what, byte_of, on_primary, on_alternate, step_of}
+use Rattle.slots.specs.Sound.{sound}
+use Rattle.slots.specs.OneSlot.{Work, idle, primary, alternate, is_waiting, waits, what, byte_of, on_primary, on_alternate, step_of}
 use Rattle.slots.specs.WaitingSet.{set_from}
 use Rattle.slots.specs.Buffer.{Kept}
 use Rattle.slots.specs.Reports.{Outcome, report_refusal}
@@ -33,10 +32,6 @@ started_with f js = record { refusal = f; start = record { clock = 0; jobs = js 
 -- the waiting rows among the first n
 unfoldable pub members_of : List Job → ℕ → Awaiting
 members_of js n = record { set = set_from (waits js) 0 n; row = first_row (waits js) n; count = count (waits js) 0 n }
-
--- the cycle and the holder of the clock's slot; or 1 to 7, then 9
-unfoldable pub admitted_of : Table → Record → Result Admitted Refusal
-admitted_of t q = answer (record_refusal t q) (record { cycle = cycle_of (used t); holder = holder_at (used t) q q.clock })
 
 -- a sound record of an accepted table with its cycle
 pub record Steady (t : Table) (cycle : ℕ) (q : Record) : Type 0 where

@@ -9,6 +9,7 @@ ghost use Rattle.slots.specs.LostUnits.{lost_from, lost_fresh};
 ghost use Rattle.slots.specs.Turns.{started_with};
 ghost use Rattle.table.specs.Rows.{used};
 
+use crate::slot::Admitted;
 use refusal::Refusal;
 use table::Table;
 
@@ -122,25 +123,22 @@ impl Record {
     pub fn what_runs(self, t: Table) -> Result<u8, Refusal>
         ensures { result ≡ asked_of t self }
     {
-        let admitted = slot::admit(self, t)?;
-        let waiting = awaited::awaited_rows(self.jobs, t.n);
-        Ok(slot::byte_of(admitted.holder, waiting.row))
+        Ok(Admitted::new(self, t)?.runs())
     }
 
     // The rows waiting at the clock, the lowest of them and their number.
     pub fn waiting(self, t: Table) -> Result<Awaiting, Refusal>
         ensures { result ≡ awaiting_of t self }
     {
-        slot::admit(self, t)?;
-        Ok(awaited::awaited_rows(self.jobs, t.n))
+        Ok(Admitted::new(self, t)?.waiting())
     }
 
     // One slot: what runs at the clock, and its report.
     pub fn step(self, t: Table, report: u8) -> Stepped
         ensures { result ≡ stepped_by t self report }
     {
-        match slot::admit(self, t) {
-            Ok(admitted) => slot::settle(self, t, admitted.cycle, admitted.holder, report),
+        match Admitted::new(self, t) {
+            Ok(admitted) => admitted.settle(report),
             Err(f) => Stepped {
                 refusal: Some(f),
                 next: self,
@@ -156,8 +154,8 @@ impl Record {
         ensures bytes { log.new ≡ log_after t self reports.now log.old buffer.old }
         ensures kept { buffer.new ≡ buffer_after t self reports.now log.old buffer.old }
     {
-        match slot::admit(self, t) {
-            Ok(admitted) => listed::run_admitted(self, t, admitted.cycle, reports, log, buffer),
+        match Admitted::new(self, t) {
+            Ok(admitted) => admitted.run(reports, log, buffer),
             Err(f) => Ran {
                 refusal: Some(f),
                 slots: 0,
@@ -170,7 +168,6 @@ impl Record {
     pub fn lost(self, t: Table, reports: &[u8]) -> Result<u64, Refusal>
         ensures { result ≡ lost_from t self reports.now }
     {
-        let admitted = slot::admit(self, t)?;
-        listed::lost_admitted(self, t, admitted.cycle, reports)
+        Admitted::new(self, t)?.lost(reports)
     }
 }

@@ -7,6 +7,7 @@ ghost use Rattle.slots.specs.LostUnits.{lost_from};
 ghost use Rattle.slots.specs.Buffer.{Kept, Stale};
 ghost use Rattle.slots.specs.Turns.{Steady, Standing, RunLeaves, lost_by};
 
+use crate::slot::Admitted;
 use crate::{Job, Ran, Record, awaited, buffer, entry, opening, turn};
 use refusal::Refusal;
 use table::Table;
@@ -126,27 +127,6 @@ fn run_stretches(
     }
 }
 
-// Builds the buffer, whatever it held, and runs the list over it. The log may be shorter than the list: no byte is written past it.
-pub(crate) fn run_list(
-    start: Record,
-    t: Table,
-    cycle: u16,
-    reports: &[u8],
-    log: &mut [u8],
-    kept: &mut [u8],
-) -> Course
-    requires { Steady t cycle start × (cycle ≤ length kept.old) }
-    ensures course { RunLeaves (run_of (used t) start reports.now) log.old result.refusal result.slots result.next log.new }
-    ensures lost { result.refusal ≡ None → result.lost ≡ lost_by (used t) start reports.now }
-    ensures kept { Kept (used t) cycle result.next kept.old kept.new }
-{
-    let Record { clock, jobs } = start;
-    buffer::build(t, cycle, clock, jobs, kept);
-    let waiting = awaited::waiting_set(jobs, t.n);
-    let opens = opening::next_opening(t, cycle, clock);
-    run_stretches(clock, jobs, waiting, opens, t, cycle, reports, log, kept)
-}
-
 // Whether the log or the buffer is shorter than its use.
 fn lacks_room(log: usize, reports: usize, buffer: usize, cycle: u16) -> bool
     ensures { result ≡ (ltb log reports || ltb buffer cycle) }
@@ -154,45 +134,54 @@ fn lacks_room(log: usize, reports: usize, buffer: usize, cycle: u16) -> bool
     log < reports || buffer < cycle as usize
 }
 
-// The run from a record that is sound, on a table that is accepted: 8 where there is no room.
-pub(crate) fn run_admitted(
-    q: Record,
-    t: Table,
-    cycle: u16,
-    reports: &[u8],
-    log: &mut [u8],
-    buffer: &mut [u8],
-) -> Ran
-    requires { Steady t cycle q }
-    ensures answer { result ≡ ran_by t q reports.now log.old buffer.old }
-    ensures bytes { log.new ≡ log_after t q reports.now log.old buffer.old }
-    ensures kept { buffer.new ≡ buffer_after t q reports.now log.old buffer.old }
-{
-    if lacks_room(log.len(), reports.len(), buffer.len(), cycle) {
-        return Ran {
-            refusal: Some(Refusal::Room),
-            slots: 0,
-            next: q,
-        };
+impl Admitted {
+    // Builds the buffer, whatever it held, and runs the list over it. The log may be shorter than the list: no byte is written past it.
+    fn course(self, reports: &[u8], log: &mut [u8], kept: &mut [u8]) -> Course
+        requires { self.cycle ≤ length kept.old }
+        ensures course { RunLeaves (run_of (used self.table) self.start reports.now) log.old result.refusal result.slots result.next log.new }
+        ensures lost { result.refusal ≡ None → result.lost ≡ lost_by (used self.table) self.start reports.now }
+        ensures kept { Kept (used self.table) self.cycle result.next kept.old kept.new }
+    {
+        let Record { clock, jobs } = self.start;
+        buffer::build(self.table, self.cycle, clock, jobs, kept);
+        let waiting = awaited::waiting_set(jobs, self.table.n);
+        let opens = opening::next_opening(self.table, self.cycle, clock);
+        run_stretches(
+            clock, jobs, waiting, opens, self.table, self.cycle, reports, log, kept,
+        )
     }
-    let course = run_list(q, t, cycle, reports, log, buffer);
-    Ran {
-        refusal: course.refusal,
-        slots: course.slots,
-        next: course.next,
-    }
-}
 
-// Lost units from such a record: the run's own loop, with no log and a buffer of its own.
-pub(crate) fn lost_admitted(q: Record, t: Table, cycle: u16, reports: &[u8]) -> Result<u64, Refusal>
-    requires { Steady t cycle q }
-    ensures { result ≡ lost_from t q reports.now }
-{
-    let mut log = [0u8; 0];
-    let mut buffer = [0u8; 4096];
-    let course = run_list(q, t, cycle, reports, &mut log, &mut buffer);
-    match course.refusal {
-        None => Ok(course.lost),
-        Some(f) => Err(f),
+    // The run: 8 where there is no room.
+    pub(crate) fn run(self, reports: &[u8], log: &mut [u8], buffer: &mut [u8]) -> Ran
+        ensures answer { result ≡ ran_by self.table self.start reports.now log.old buffer.old }
+        ensures bytes { log.new ≡ log_after self.table self.start reports.now log.old buffer.old }
+        ensures kept { buffer.new ≡ buffer_after self.table self.start reports.now log.old buffer.old }
+    {
+        if lacks_room(log.len(), reports.len(), buffer.len(), self.cycle) {
+            return Ran {
+                refusal: Some(Refusal::Room),
+                slots: 0,
+                next: self.start,
+            };
+        }
+        let course = self.course(reports, log, buffer);
+        Ran {
+            refusal: course.refusal,
+            slots: course.slots,
+            next: course.next,
+        }
+    }
+
+    // Lost units: the run's own loop, with no log and a buffer of its own.
+    pub(crate) fn lost(self, reports: &[u8]) -> Result<u64, Refusal>
+        ensures { result ≡ lost_from self.table self.start reports.now }
+    {
+        let mut log = [0u8; 0];
+        let mut buffer = [0u8; 4096];
+        let course = self.course(reports, &mut log, &mut buffer);
+        match course.refusal {
+            None => Ok(course.lost),
+            Some(f) => Err(f),
+        }
     }
 }

@@ -1,24 +1,28 @@
 // One slot of a record.
-ghost use Rattle.std.specs.Prelude.{◌≡◌, ◌&&◌, ◌≤◌, ◌<◌, ltb, eqb};
+ghost use Rattle.std.specs.Prelude.{Some, Ok, Err, IfOk, IfErr, ◌≡◌, ◌&&◌, ◌≤◌, ◌<◌, ltb, eqb};
 ghost use Rattle.refusal.specs.Order.{verdict};
 ghost use Rattle.table.specs.Rows.{used};
 ghost use Rattle.reserve.specs.Turns.{Ready};
-ghost use Rattle.slots.specs.Sound.{jobs_fit, lefts};
+ghost use Rattle.slots.specs.Sound.{jobs_fit, lefts, record_refusal};
 ghost use Rattle.slots.specs.OneSlot.{reserved, unreserved, byte_of, worked, renewed, step_by, what, holder_at};
 ghost use Rattle.slots.specs.Reports.{report_refusal};
 ghost use Rattle.slots.specs.History.{work_of};
-ghost use Rattle.slots.specs.Answers.{slot_under};
-ghost use Rattle.slots.specs.Turns.{Workable, Steady, admitted_of};
+ghost use Rattle.slots.specs.Answers.{stepped_by};
+ghost use Rattle.slots.specs.Turns.{Workable, Steady, members_of};
 
-use crate::{Job, Record, Stepped, awaited, entry, opening, turn};
+use crate::{Awaiting, Job, Record, Stepped, awaited, entry, opening, turn};
 use refusal::Refusal;
 use table::Table;
 
-// What stands before a slot: the cycle and the holder of the clock's slot.
+// A record and its table that 1 to 7 and 9 accept, with the cycle and the holder of the clock's slot.
 #[derive(Clone, Copy)]
 pub(crate) struct Admitted {
-    pub cycle: u16,
-    pub holder: u8,
+    pub(crate) start: Record,
+    pub(crate) table: Table,
+    pub(crate) cycle: u16,
+    pub(crate) holder: u8,
+    ghost steady: { Steady table cycle start },
+    ghost held: { holder ≡ holder_at (used table) start start.clock },
 }
 
 // What is left of each entry's job.
@@ -43,22 +47,6 @@ fn all_hold(clock: u16, cycle: u16, fit: bool, short: u8) -> bool
     ensures { result ≡ (ltb clock cycle && (fit && eqb short 0)) }
 {
     clock < cycle && fit && short == 0
-}
-
-// Refusals 1 to 7, then 9.
-pub(crate) fn admit(q: Record, t: Table) -> Result<Admitted, Refusal>
-    ensures { result ≡ admitted_of t q }
-{
-    reserve::check(t)?;
-    let stands = reserve::from_clock(t, q.clock, left_units(q.jobs))?;
-    if all_hold(q.clock, stands.cycle, all_fit(t, q.jobs), stands.short) {
-        Ok(Admitted {
-            cycle: stands.cycle,
-            holder: stands.holder,
-        })
-    } else {
-        Err(Refusal::Record)
-    }
 }
 
 // The log's byte for a slot with a holder, and the lowest waiting row where it has none.
@@ -125,23 +113,57 @@ fn next_record(q: Record, t: Table, cycle: u16, ran: u8, report: u8) -> Record
     Record { clock: c, jobs }
 }
 
-// The slot of a sound record, where the holder of the clock's slot is known.
-pub(crate) fn settle(q: Record, t: Table, cycle: u16, holder: u8, report: u8) -> Stepped
-    requires { Steady t cycle q × (holder ≡ holder_at (used t) q q.clock) }
-    ensures { result ≡ slot_under (report_refusal (what (used t) q) report) (used t) q report }
-{
-    let waiting = awaited::awaited_rows(q.jobs, t.n);
-    let ran = byte_of(holder, waiting.row);
-    match hear(ran, report) {
-        Ok(()) => Stepped {
-            refusal: None,
-            next: next_record(q, t, cycle, ran, report),
-            ran,
-        },
-        Err(f) => Stepped {
-            refusal: Some(f),
-            next: q,
-            ran: 0,
-        },
+impl Admitted {
+    // Refusals 1 to 7, then 9, or the record and its table with what stands before the slot.
+    pub(crate) fn new(start: Record, table: Table) -> Result<Self, Refusal>
+        ensures passed { IfOk result (λ a. (a.start ≡ start) × (a.table ≡ table)) }
+        ensures refused { IfErr result (λ f. record_refusal table start ≡ Some f) }
+    {
+        reserve::check(table)?;
+        let stands = reserve::from_clock(table, start.clock, left_units(start.jobs))?;
+        let fit = all_fit(table, start.jobs);
+        if all_hold(start.clock, stands.cycle, fit, stands.short) {
+            Ok(Admitted {
+                start,
+                table,
+                cycle: stands.cycle,
+                holder: stands.holder,
+            })
+        } else {
+            Err(Refusal::Record)
+        }
+    }
+
+    // The rows waiting at the clock.
+    pub(crate) fn waiting(self) -> Awaiting
+        ensures { result ≡ members_of self.start.jobs self.table.n }
+    {
+        awaited::awaited_rows(self.start.jobs, self.table.n)
+    }
+
+    // The log's byte for what runs at the clock.
+    pub(crate) fn runs(self) -> u8
+        ensures { result ≡ byte_of (what (used self.table) self.start) }
+    {
+        byte_of(self.holder, self.waiting().row)
+    }
+
+    // The slot, where its report is read.
+    pub(crate) fn settle(self, report: u8) -> Stepped
+        ensures { result ≡ stepped_by self.table self.start report }
+    {
+        let ran = self.runs();
+        match hear(ran, report) {
+            Ok(()) => Stepped {
+                refusal: None,
+                next: next_record(self.start, self.table, self.cycle, ran, report),
+                ran,
+            },
+            Err(f) => Stepped {
+                refusal: Some(f),
+                next: self.start,
+                ran: 0,
+            },
+        }
     }
 }

@@ -1,11 +1,7 @@
 -- `slots::Record::run` meets its contract.
 use Rattle.std.proofs.Common.{rules}
-use Rattle.slots.proofs.Admittance.{admitted_steady}
 use Rattle.slots.proofs.AnswerCases.{ran_refused, log_refused, buffer_refused}
 use Rattle.slots.proofs.Record.run.Goals as goal
-
-pub run_admitted-requires : goal.run_admitted-requires
-run_admitted-requires c = search (rules, admitted_steady)
 
 pub returns-in-Err-clause-answer : goal.returns-in-Err-clause-answer
 returns-in-Err-clause-answer c = search (rules, ran_refused)

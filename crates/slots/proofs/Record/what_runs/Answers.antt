@@ -1,16 +1,10 @@
 -- `slots::Record::what_runs` meets its contract.
 use Rattle.std.proofs.Common.{rules}
-use Rattle.slots.proofs.AnswerCases.{answer_few, answer_holder, asked_none, asked_refused}
+use Rattle.slots.proofs.AnswerCases.{asked_none, asked_refused}
 use Rattle.slots.proofs.Record.what_runs.Goals as goal
 
-pub returns-in_err-admitted : goal.returns-in_err-admitted
-returns-in_err-admitted c = search (rules, asked_refused)
-
-pub awaited_rows-waiting-requires : goal.awaited_rows-waiting-requires
-awaited_rows-waiting-requires c = search (rules, answer_few)
-
-pub byte_of-requires : goal.byte_of-requires
-byte_of-requires c = search (rules, answer_holder)
+pub returns-in_err-new : goal.returns-in_err-new
+returns-in_err-new c = search (rules, asked_refused)
 
 pub returns : goal.returns
-returns c = search (rules, asked_none)
+returns c = let a = c.in_ok-new.field-0 in let e = c.in_ok-new.ensures.passed in rw (← e.0, ← e.1) (asked_none a.steady _ c.runs.ensures)
