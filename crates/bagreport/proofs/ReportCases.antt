@@ -48,7 +48,7 @@ module _ (t : Table) (reps : List ℕ) (row : ℕ) (spans old : List ℕ) where
 
   -- ---- whatever it is refused by
   module _ (f : Refusal) (e : bag_refusal t reps row spans old ≡ Some f) where
-    not_told : (r : BagReport) → r ≡ refused_with (Some f) → r ≡ report_of t reps row spans old
+    not_told : (r : BagReport) → r ≡ refused_with f → r ≡ report_of t reps row spans old
     unfolding report_of
     not_told r h =
         h ∙ ap (λ (g : Option Refusal). record { refusal = g; shares = cond (accepted g) (sixteen_shares t reps) (replicate 16 no_share) }) (sym e)
@@ -63,7 +63,7 @@ module _ (t : Table) (reps : List ℕ) (row : ℕ) (spans old : List ℕ) where
     unfolding bag_refusal or_else
     table_first = ap (λ (g : Option Refusal). or_else g (or_else (room_refusal spans old) (or_else ran desk))) (sym (fresh_refusal t s e) ∙ p)
 
-    pub table_told : (r : BagReport) → r ≡ refused_with (Some f) → r ≡ report_of t reps row spans old
+    pub table_told : (r : BagReport) → r ≡ refused_with f → r ≡ report_of t reps row spans old
     table_told = not_told f table_first
 
     pub table_kept : old ≡ marks_after t reps row spans old
@@ -82,7 +82,7 @@ module _ (t : Table) (reps : List ℕ) (row : ℕ) (spans old : List ℕ) where
           let g : room_refusal spans old ≡ Some Room = ap (λ (x : Bool). given x Room) (lt-ltb (length old) (length spans / 2) short) in
           sym after_table ∙ ap (λ (g : Option Refusal). or_else g (or_else ran desk)) g
 
-      pub room_told : (r : BagReport) → r ≡ refused_with (Some Room) → r ≡ report_of t reps row spans old
+      pub room_told : (r : BagReport) → r ≡ refused_with Room → r ≡ report_of t reps row spans old
       room_told = not_told Room room_first
 
       pub room_kept : old ≡ marks_after t reps row spans old
@@ -101,7 +101,7 @@ module _ (t : Table) (reps : List ℕ) (row : ℕ) (spans old : List ℕ) where
         unfolding or_else
         run_first = sym after_room ∙ ap (λ (g : Option Refusal). or_else g desk) (sym e ∙ ap result_err p)
 
-        pub run_told : (r : BagReport) → r ≡ refused_with (Some f) → r ≡ report_of t reps row spans old
+        pub run_told : (r : BagReport) → r ≡ refused_with f → r ≡ report_of t reps row spans old
         run_told = not_told f run_first
 
         pub run_kept : old ≡ marks_after t reps row spans old
@@ -113,7 +113,7 @@ module _ (t : Table) (reps : List ℕ) (row : ℕ) (spans old : List ℕ) where
 
         -- ---- 14 and 15
         module _ (g : Option Refusal) (e : g ≡ desk_refusal t.n row (length reps) spans) (f : Refusal) (p : g ≡ Some f) where
-          pub desk_told : (r : BagReport) → r ≡ refused_with (Some f) → r ≡ report_of t reps row spans old
+          pub desk_told : (r : BagReport) → r ≡ refused_with f → r ≡ report_of t reps row spans old
           desk_told = not_told f (sym after_run ∙ sym e ∙ p)
 
           pub desk_kept : old ≡ marks_after t reps row spans old

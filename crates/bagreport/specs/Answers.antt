@@ -1,6 +1,6 @@
 -- The answer of the bag report, refused ones too, with lent bytes that held `old`.
 -- Assumes nothing: these are definitions.
-use Rattle.std.specs.Prelude.{Option, ℕ, zero, suc, ◌-◌, cond, ◌||◌, List, [], ◌∷◌, ◌++◌, eqb, ltb, length, replicate}
+use Rattle.std.specs.Prelude.{Option, Some, ℕ, zero, suc, ◌-◌, cond, ◌||◌, List, [], ◌∷◌, ◌++◌, eqb, ltb, length, replicate}
 use Rattle.refusal.specs.declared.Refusal.{Refusal}
 use Rattle.refusal.specs.declared.Refusal.TheVariants.{Room, Dosing, Spans}
 use Rattle.refusal.specs.Order.{accepted, given, or_else}
@@ -62,8 +62,8 @@ abbrev pub no_share : Share
 no_share = record { mark = 0; done = 0; of = 0; share = no_number }
 
 -- ---- the answer and the lent bytes
-abbrev pub refused_with : Option Refusal → BagReport
-refused_with f = record { refusal = f; shares = replicate 16 no_share }
+abbrev pub refused_with : Refusal → BagReport
+refused_with f = record { refusal = Some f; shares = replicate 16 no_share }
 
 unfoldable pub report_of : Table → (reps : List ℕ) (row : ℕ) (spans old : List ℕ) → BagReport
 report_of t reps row spans old =

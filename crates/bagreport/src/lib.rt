@@ -47,7 +47,7 @@ fn no_shares() -> [Share; 16]
 
 // The answer beside a refusal.
 fn refused(f: Refusal) -> BagReport
-    ensures { result ≡ refused_with (Some f) }
+    ensures { result ≡ refused_with f }
 {
     BagReport {
         refusal: Some(f),

@@ -1,6 +1,6 @@
 // What stands in an order, by its place: the dosing row; two bytes, how many numbers the spans have; those numbers, eight bytes each; two bytes, the size of the table file; the
 // file; then the reports. Numbers stand with the high byte first, and bytes that an order doesn't have count as 0.
-ghost use Rattle.std.specs.Prelude.{ℕ, ◌≡◌, ◌+◌, ◌^◌, ◌≤◌, ◌<◌, length, get_or};
+ghost use Rattle.std.specs.Prelude.{◌≡◌, ◌+◌, ◌^◌, ◌≤◌, ◌<◌, length, get_or};
 ghost use Rattle.bags.specs.Orders.{word_at, long_at, Spanned};
 
 use std::array;

@@ -16,11 +16,13 @@ use Rattle.table.proofs.Check.{used_count}
 use Rattle.rule.specs.Slots.{first_row}
 use Rattle.reserve.specs.Turns.{Ready}
 use Rattle.reserve.proofs.Verdict.{table_rows, table_accepted}
+use mathlib.Core.List.{List}
+use Rattle.slots.specs.declared.Job.{Job}
 use Rattle.slots.specs.declared.Record.{Record}
 use Rattle.slots.specs.declared.Stepped.{Stepped}
 use Rattle.slots.specs.declared.Awaiting.{Awaiting}
 use Rattle.slots.specs.Records.{job_at}
-use Rattle.slots.specs.OneSlot.{Work, idle, primary, alternate, reserved, unreserved, byte_of, holder_at, lowest_waiting, what, step_by, step_of, waits}
+use Rattle.slots.specs.OneSlot.{Work, idle, primary, alternate, reserved, unreserved, byte_of, holder_at, lowest_waiting, next_clock, worked, renewed, what, step_by, step_of, waits}
 use Rattle.slots.specs.Reports.{report_refusal}
 use Rattle.slots.specs.History.{work_of}
 use Rattle.slots.specs.Answers.{slot_under}
@@ -30,6 +32,15 @@ use Rattle.slots.proofs.SoundRecord.{Usable, table_usable, Sound, sound_at}
 use Rattle.slots.proofs.SlotActs.{InRows, the_holder, allowed_row}
 use Rattle.slots.proofs.StaysSound.{what_allowed}
 use Rattle.slots.proofs.RunFacts.{what_byte}
+
+-- ---- the next record
+pub record_next : (q : Record) (t : Table) (cycle c ran report : ℕ) (done after : List Job) → Ready t cycle
+    → c ≡ next_clock cycle q.clock → done ≡ worked (work_of ran) report (used t) q.jobs → after ≡ renewed c (used t) done
+    → ◌≡◌ {A = Record} (record { clock = c; jobs = after }) (step_by (used t) q (work_of ran) report)
+unfolding step_by
+record_next q t cycle c ran report done after r e f g =
+    let h : c ≡ next_clock (cycle_of (used t)) q.clock = e ∙ ap (λ (L : ℕ). next_clock L q.clock) r.is_cycle in
+    simp (g, f, h)
 
 -- ---- a sound record of an accepted table
 module _ {t : Table} {cycle : ℕ} {q : Record} (g : Steady t cycle q) where

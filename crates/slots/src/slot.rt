@@ -1,11 +1,9 @@
 // One slot of a record.
-ghost use Rattle.std.specs.Prelude.{Some, Ok, Err, IfOk, IfErr, ◌≡◌, ◌&&◌, ◌≤◌, ◌<◌, ltb, eqb};
-ghost use Rattle.refusal.specs.Order.{verdict};
+ghost use Rattle.std.specs.Prelude.{Some, Ok, Err, IfOk, IfErr, ◌≡◌, ◌&&◌, ◌<◌, ltb, eqb};
 ghost use Rattle.table.specs.Rows.{used};
 ghost use Rattle.reserve.specs.Turns.{Ready};
 ghost use Rattle.slots.specs.Sound.{jobs_fit, lefts, record_refusal};
-ghost use Rattle.slots.specs.OneSlot.{reserved, unreserved, byte_of, worked, renewed, step_by, what, holder_at};
-ghost use Rattle.slots.specs.Reports.{report_refusal};
+ghost use Rattle.slots.specs.OneSlot.{byte_of, worked, renewed, step_by, what, holder_at};
 ghost use Rattle.slots.specs.History.{work_of};
 ghost use Rattle.slots.specs.Answers.{stepped_by};
 ghost use Rattle.slots.specs.Turns.{Workable, Steady, members_of};
@@ -47,36 +45,6 @@ fn all_hold(clock: u16, cycle: u16, fit: bool, short: u8) -> bool
     ensures { result ≡ (ltb clock cycle && (fit && eqb short 0)) }
 {
     clock < cycle && fit && short == 0
-}
-
-// The log's byte for a slot with a holder, and the lowest waiting row where it has none.
-pub(crate) fn byte_of(holder: u8, row: u8) -> u8
-    requires { holder ≤ 16 }
-    ensures { result ≡ byte_of (reserved holder (unreserved row)) }
-{
-    if holder == 0 { row } else { 16 + holder }
-}
-
-// 11 where the byte is no primary unit's.
-fn stray(ran: u8) -> Result<(), Refusal>
-    ensures { result ≡ verdict (report_refusal (work_of ran) 1) }
-{
-    if 0 < ran && ran <= 16 {
-        Ok(())
-    } else {
-        Err(Refusal::Stray)
-    }
-}
-
-// The report is read: 0 going on, 1 done, 2 failed; over 2 it is refused, and 1 and 2 are for a primary unit alone.
-pub(crate) fn hear(ran: u8, report: u8) -> Result<(), Refusal>
-    ensures { result ≡ verdict (report_refusal (work_of ran) report) }
-{
-    match report {
-        0 => Ok(()),
-        1 | 2 => stray(ran),
-        3..=255 => Err(Refusal::Report),
-    }
 }
 
 // The entries after the slot's unit and its report.
@@ -145,7 +113,7 @@ impl Admitted {
     pub(crate) fn runs(self) -> u8
         ensures { result ≡ byte_of (what (used self.table) self.start) }
     {
-        byte_of(self.holder, self.waiting().row)
+        turn::byte_of(self.holder, self.waiting().row)
     }
 
     // The slot, where its report is read.
@@ -153,7 +121,7 @@ impl Admitted {
         ensures { result ≡ stepped_by self.table self.start report }
     {
         let ran = self.runs();
-        match hear(ran, report) {
+        match turn::hear(ran, report) {
             Ok(()) => Stepped {
                 refusal: None,
                 next: next_record(self.start, self.table, self.cycle, ran, report),

@@ -1,11 +1,13 @@
 // One slot of a run, where the slot's holder and the waiting set are known: the body that every list of reports is run by. It works on numbers and one entry,
 // and writes no log.
 ghost use Rattle.std.specs.Prelude.{◌≡◌, true, cond, not, ◌&&◌, ◌-◌, ◌^◌, ◌≤◌, ◌<◌, eqb};
-ghost use Rattle.slots.specs.OneSlot.{is_waiting, reserved, unreserved};
+ghost use Rattle.refusal.specs.Order.{verdict};
+ghost use Rattle.slots.specs.OneSlot.{is_waiting, reserved, unreserved, byte_of};
+ghost use Rattle.slots.specs.Reports.{report_refusal};
 ghost use Rattle.slots.specs.History.{work_of};
 ghost use Rattle.slots.specs.Turns.{lowest_in, entry_of, moved_by, turn_of, loss_by, moved_of};
 
-use crate::{Job, State, awaited, entry, slot};
+use crate::{Job, State, awaited, entry};
 use refusal::Refusal;
 use table::Row;
 
@@ -23,6 +25,36 @@ pub(crate) struct Moved {
     pub waiting: u16,
     pub lost: u16,
     pub finished: u8,
+}
+
+// The log's byte for a slot with a holder, and the lowest waiting row where it has none.
+pub(crate) fn byte_of(holder: u8, row: u8) -> u8
+    requires { holder ≤ 16 }
+    ensures { result ≡ byte_of (reserved holder (unreserved row)) }
+{
+    if holder == 0 { row } else { 16 + holder }
+}
+
+// 11 where the byte is no primary unit's.
+fn stray(ran: u8) -> Result<(), Refusal>
+    ensures { result ≡ verdict (report_refusal (work_of ran) 1) }
+{
+    if 0 < ran && ran <= 16 {
+        Ok(())
+    } else {
+        Err(Refusal::Stray)
+    }
+}
+
+// The report is read: 0 going on, 1 done, 2 failed; over 2 it is refused, and 1 and 2 are for a primary unit alone.
+pub(crate) fn hear(ran: u8, report: u8) -> Result<(), Refusal>
+    ensures { result ≡ verdict (report_refusal (work_of ran) report) }
+{
+    match report {
+        0 => Ok(()),
+        1 | 2 => stray(ran),
+        3..=255 => Err(Refusal::Report),
+    }
 }
 
 // The place of the entry that a byte's unit moves.
@@ -44,8 +76,8 @@ pub(crate) fn decide(holder: u8, waiting: u16, report: u8) -> Result<Turn, Refus
     ensures { result ≡ turn_of (reserved holder (unreserved (lowest_in waiting))) report }
 {
     let row = awaited::lowest(waiting);
-    let ran = slot::byte_of(holder, row);
-    slot::hear(ran, report)?;
+    let ran = byte_of(holder, row);
+    hear(ran, report)?;
     let at = entry_of(ran);
     Ok(Turn { ran, at })
 }

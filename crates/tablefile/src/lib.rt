@@ -4,7 +4,6 @@
 ghost use Rattle.std.specs.Prelude.{◌≡◌, ◌+◌, ◌*◌, ◌≤◌, ◌<◌, length};
 ghost use Rattle.std.proofs.lemmas.List.Edits.{sets};
 ghost use Rattle.refusal.specs.Order.{answer};
-ghost use Rattle.table.specs.Rows.{used};
 ghost use Rattle.reserve.specs.HandOut.{handed, handed_over};
 ghost use Rattle.tablefile.specs.Layout.{word_bytes, row_bytes, rows_bytes, file_bytes, byte_at, word_at, count_byte, row_from, rows_from, padded};
 ghost use Rattle.tablefile.specs.Answers.{head_refusal, zero_table, hands_back, read_as};

@@ -1,8 +1,8 @@
--- `slots::slot::byte_of` meets its contract.
+-- `slots::turn::byte_of` meets its contract.
 use Rattle.std.proofs.Common.{arith}
 use Rattle.std.proofs.lemmas.Grind.{common_steps}
 use Rattle.slots.specs.OneSlot.{byte_of}
-use Rattle.slots.proofs.slot.byte_of.Goals as goal
+use Rattle.slots.proofs.turn.byte_of.Goals as goal
 
 pub returns-then-holder-eq0 : goal.returns-then-holder-eq0
 unfolding byte_of

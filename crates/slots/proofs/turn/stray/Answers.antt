@@ -1,10 +1,10 @@
--- `slots::slot::stray` meets its contract.
+-- `slots::turn::stray` meets its contract.
 use Rattle.std.proofs.Common.{arith}
 use Rattle.std.proofs.lemmas.Grind.{common_steps}
 use Rattle.refusal.specs.Order.{or_else}
 use Rattle.slots.specs.Reports.{report_refusal}
 use Rattle.slots.specs.History.{work_of}
-use Rattle.slots.proofs.slot.stray.Goals as goal
+use Rattle.slots.proofs.turn.stray.Goals as goal
 
 pub returns-then-ran-le16 : goal.returns-then-ran-le16
 unfolding work_of or_else report_refusal
