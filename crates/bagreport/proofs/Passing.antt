@@ -115,6 +115,9 @@ ordered_none = record { forward = λ c l. absurd (omega arith); apart = λ c d l
 pub beyond_refl : (spans old : List ℕ) → Beyond spans old old
 beyond_refl spans old = record { size = refl; stay = λ c l. refl }
 
+pub beyond_trans : {spans old mid new : List ℕ} → Beyond spans old mid → Beyond spans mid new → Beyond spans old new
+beyond_trans f g = record { size = g.size ∙ f.size; stay = λ c l. g.stay c l ∙ f.stay c l }
+
 -- ---- the loop, whose last step may go past the reports: those before `at` have been run and told of, with a log and a buffer of its own; the bags' bytes held `old`
 pub record PassedTo (t : Table) (reps : List ℕ) (place : ℕ) (spans old : List ℕ) (at : ℕ) (q : Record) (tale : Tale) (marks log buffer : List ℕ) : Type 0 where
   pub run : RunTo t reps (min at (length reps)) q

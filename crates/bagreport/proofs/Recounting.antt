@@ -27,6 +27,15 @@ use Rattle.bagreport.proofs.Closing.{Countable, ClosedAt, Closing, closing_start
 use Rattle.bagreport.proofs.StretchTold.{told_after, counted_after, ended_code}
 use Rattle.bagreport.proofs.BagsMarked.{bagged_after, beyond_after}
 
+-- fewer bytes of a log
+pub logged_less : (t : Table) (reps : List ℕ) (base n : ℕ) (log : List ℕ) → Logged t reps base n log → (m : ℕ) → m ≤ n → Logged t reps base m log
+logged_less t reps base n log h m l = record {
+  room = omega (arith, h.room);
+  listed = omega (arith, h.listed);
+  bytes = λ i b. h.bytes i (omega arith);
+  small = λ i b. h.small i (omega arith);
+}
+
 -- no count is over the slots that have passed
 module _ (t : Table) (reps : List ℕ) (a : ℕ) (cs : List Counts) (counted : Counted t reps a cs) (s : ℕ) (later : a < s) (few : s < 2 ^ 64) where
   less : (f : Counts → ℕ) → ((k : ℕ) → f (counts_to t reps k a) ≤ a) → f no_counts ≡ 0 → (k : ℕ) → f (get_or cs k no_counts) < s

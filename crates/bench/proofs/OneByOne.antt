@@ -58,7 +58,7 @@ pub record Going (t : Table) (start : Record) (reps old log : List ℕ) (q : Rec
   pub rest : singles t start reps old ≡ bytes ++ singles t q (drop i reps) (drop i old)
 
 module _ {t : Table} {start : Record} {reps old log : List ℕ} {q : Record} {i : ℕ} (g : Going t start reps old log q i) where
-  going_size : length log ≡ length old
+  pub going_size : length log ≡ length old
   going_size = ap length g.is_log ∙ length-append g.bytes (drop i old) ∙ omega (arith, g.count, length-drop i old, g.room)
 
   -- both lists go on
@@ -112,14 +112,15 @@ module _ {t : Table} {start : Record} {reps old log : List ℕ} {q : Record} {i 
       ∙ append-nil g.bytes
 
 -- ---- what the loop leaves, over the file
-module _ (file : List ℕ) (t : Table) (e : t ≡ table_in file) (s : Started) (d : s ≡ started_for t) {reps old log : List ℕ} {q : Record} {i : ℕ} (g : Going t s.start reps old log q i) where
-  is_start : s.start ≡ start_in file
+module _ (file : List ℕ) (t : Table) (e : t ≡ table_in file) (s : Started) (d : s ≡ started_for t) where
+  pub is_start : s.start ≡ start_in file
   unfolding start_in
   is_start = ap (λ (x : Started). x.start) (d ∙ ap started_for e)
 
+module _ (file : List ℕ) (t : Table) (e : t ≡ table_in file) (s : Started) (d : s ≡ started_for t) {reps old log : List ℕ} {q : Record} {i : ℕ} (g : Going t s.start reps old log q i) where
   over : single_slots file reps old ≡ singles t s.start reps old
   unfolding single_slots
-  over = sym (ap₂ (λ (y : Table) (x : Record). singles y x reps old) e is_start)
+  over = sym (ap₂ (λ (y : Table) (x : Record). singles y x reps old) e (is_start file t e s d))
 
   -- the bytes so far are all there are
   module _ (h : singles t s.start reps old ≡ g.bytes) where

@@ -54,6 +54,6 @@ pub(crate) fn figure(got: BagReport, i: usize) -> u64
     if i < 16 {
         counts_number(got.shares[i])
     } else {
-        got.refusal.map_or(0, |f| f.number() as u64)
+        refusal::number(got.refusal) as u64
     }
 }

@@ -18,6 +18,7 @@ use Rattle.reserve.specs.Tables.{ends, whole}
 use Rattle.reserve.specs.Lists.{jobs_of, job_firsts, row_firsts, first_slots}
 use Rattle.reserve.specs.Turns.{Ready}
 use Rattle.reserve.proofs.Ready.{good}
+use Rattle.reserve.proofs.Scanning.{CountedTo, count_start, count_step}
 use Rattle.plan.specs.declared.Line.{Line}
 use Rattle.plan.specs.Lines.{job_lines, row_lines, plan_lines, no_line, Begins}
 
@@ -70,11 +71,16 @@ module _ (rs : List Row) where
 
 -- ---- the look for line k, with the rows before row i passed over and `left` lines to go in the rest
 pub record Looking (rs : List Row) (k left i : ℕ) : Type 0 where
+  pub counted : CountedTo rs i (k - left)
+  pub small : left ≤ k
   pub same : get_or (plan_lines rs) k no_line ≡ get_or (row_lines rs i (length rs - i)) left no_line
 
-pub look_start : (rs : List Row) (k : ℕ) → Looking rs k k 0
+pub look_start : {t : Table} {cycle : ℕ} → Ready t cycle → {rs : List Row} → rs ≡ used t → length rs ≤ 16 → (k : ℕ) → Looking rs k k 0
 unfolding plan_lines
-look_start rs k = let n : length rs ≡ length rs - 0 = omega arith in record { same = ap (λ (m : ℕ). get_or (row_lines rs 0 m) k no_line) n }
+look_start r {rs} u w k =
+    let z : k - k ≡ 0 = omega arith in
+    let n : length rs ≡ length rs - 0 = omega arith in
+    record { counted = rw (z, u) (count_start r (rw u at w)); small = omega arith; same = ap (λ (m : ℕ). get_or (row_lines rs 0 m) k no_line) n }
 
 -- the code's rows are the table's
 module _ {t : Table} {cycle : ℕ} (r : Ready t cycle) {rs : List Row} (u : rs ≡ used t) where
@@ -91,9 +97,13 @@ module _ {t : Table} {cycle : ℕ} (r : Ready t cycle) {rs : List Row} (u : rs �
       rest = omega arith
 
       pub look_on : cycle / (row_at rs i).period ≤ left → Looking rs k (left - cycle / (row_at rs i).period) (i + 1)
-      look_on h = record {
-        same = g.same ∙ ap (λ (m : ℕ). get_or (row_lines rs i m) left no_line) rest ∙ later_line rs i (length rs - suc i) left (omega (arith, are)) ∙ rw (are, add-one);
-      }
+      look_on h =
+          let q : k - (left - cycle / (row_at rs i).period) ≡ k - left + cycle / (row_at rs i).period = omega (arith, g.small) in
+          record {
+            counted = rw (q, u) (count_step r (rw u at g.counted) (rw u at l) (rw u at are));
+            small = omega (arith, g.small);
+            same = g.same ∙ ap (λ (m : ℕ). get_or (row_lines rs i m) left no_line) rest ∙ later_line rs i (length rs - suc i) left (omega (arith, are)) ∙ rw (are, add-one);
+          }
 
       -- the line is one of row i's
       module _ (h : left < cycle / (row_at rs i).period) where

@@ -2,18 +2,43 @@
 -- Assumes nothing.
 use mathlib.Core.Path.{◌≡◌, refl, sym, ap, ◌∙◌}
 use mathlib.Core.Bool.{Bool, true, false, cond}
-use Prim.Native.Nat.{ℕ}
+use Prim.Native.Nat.{ℕ, ◌<◌}
+use native.Mathlib.Omega.{arith}
 use Rattle.std.proofs.lemmas.Bool.{false≢true}
 use Rattle.std.proofs.lemmas.Option.{none-some}
 use Rattle.std.specs.Result.{result_ok, result_err, result_unwrap_or}
 use Rattle.refusal.specs.declared.Refusal.{Refusal}
+use Rattle.refusal.specs.declared.Refusal.TheVariants.{Empty, Many, Zero, Long, Order, Cycle, Tight, Room, Record, Report, Stray, Size, Version, Dosing, Spans}
 use Rattle.std.specs.Prelude.{Option, Some, None, Result, Ok, Err}
+use Rattle.refusal.specs.Numbers.{number_of, number_told}
 use Rattle.refusal.specs.Order.{accepted, given, or_else, beside, answer}
 
 -- ---- only None is accepted
 pub accepted_none : (f : Option Refusal) → accepted f ≡ true → f ≡ None
 accepted_none None e = refl
 accepted_none (Some f) e = absurd (false≢true e)
+
+-- ---- only None has the number 0
+number_some : (f : Refusal) → 0 < number_of f
+number_some Empty = omega arith
+number_some Many = omega arith
+number_some (Zero k) = omega arith
+number_some (Long k) = omega arith
+number_some (Order k) = omega arith
+number_some Cycle = omega arith
+number_some (Tight k) = omega arith
+number_some Room = omega arith
+number_some Record = omega arith
+number_some Report = omega arith
+number_some Stray = omega arith
+number_some Size = omega arith
+number_some Version = omega arith
+number_some Dosing = omega arith
+number_some Spans = omega arith
+
+pub number_none : (o : Option Refusal) → number_told o ≡ 0 → o ≡ None
+number_none None e = refl
+number_none (Some f) e = absurd (omega (arith, number_some f))
 
 -- ---- a refusal that a `match` has told from None
 abbrev pub Told : Option Refusal → Type 0

@@ -2,7 +2,7 @@
 #![tactic(auto)]
 
 ghost use Rattle.std.specs.Prelude.{◌≡◌};
-ghost use Rattle.refusal.specs.Numbers.{number_of, row_of};
+ghost use Rattle.refusal.specs.Numbers.{number_of, row_of, number_told, row_told};
 
 // The refusals of documents 01 and 02, in the order of their numbers. Those that name a row hold it, counted from 1.
 #[derive(Clone, Copy, Debug, PartialEq, Eq)]
@@ -57,4 +57,18 @@ impl Refusal {
             _ => 0,
         }
     }
+}
+
+// The number that is told of an answer: its refusal's, and 0 where nothing is refused.
+pub fn number(refusal: Option<Refusal>) -> u8
+    ensures { result ≡ number_told refusal }
+{
+    refusal.map_or(0, |f| f.number())
+}
+
+// The row that is told of an answer: its refusal's, and 0 where nothing is refused.
+pub fn named_row(refusal: Option<Refusal>) -> u8
+    ensures { result ≡ row_told refusal }
+{
+    refusal.map_or(0, |f| f.named_row())
 }

@@ -61,7 +61,7 @@ module _ (t : Table) (z : table_refusal t ≡ None) where
     stands : Sound (used t) p.next
     stands = subst (λ (r : Progress). Sound (used t) r.next) (sym g.gives) (replay_sound t z g.reports)
 
-    few_slots : p.slots ≤ 2 ^ 60
+    pub few_slots : p.slots ≤ 2 ^ 60
     few_slots = omega (arith, ap (λ (r : Progress). r.slots) g.gives, (replay_few g.reports).0, g.few)
 
     few_lost : p.lost ≤ 2 ^ 60 + 65536

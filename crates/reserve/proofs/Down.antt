@@ -5,10 +5,11 @@ use mathlib.Core.Logic.{⊎_elim}
 use mathlib.Core.Bool.{Bool, cond, ◌&&◌}
 use mathlib.Core.List.{List, ◌++◌}
 use Prim.Native.Nat.{ℕ, suc, ◌+◌, ◌-◌, ◌≤◌, ◌<◌, min}
+use native.Mathlib.Nat.{eq-or-lt_of_le}
 use native.Mathlib.Omega.{arith}
 use lib.Dec.{ltb}
-use lib.ListN.{get_or, length, drop, length-append, length-drop, get_or-append}
-use lib.Seq.{get_or-drop, get_or-append-add, ext_get_or}
+use lib.ListN.{get_or, set, length, drop, length-set, length-append, length-drop, get_or-append}
+use lib.Seq.{get_or-set_same, get_or-set_other, get_or-drop, get_or-append-add, ext_get_or}
 use borrow.Author.Tests.{lt-ltb, le-ltb}
 use Rattle.rule.specs.Slots.{some, first_row}
 use Rattle.rule.specs.Rule.{holder, short, begins, lacks, tight_row}
@@ -81,6 +82,18 @@ module _ (E K : ℕ → ℕ → ℕ) (n L : ℕ) where
 
   pub filled_start : (old : List ℕ) → Filled old old L
   filled_start old = record { size = refl; written = λ j l u. absurd (omega arith); kept = λ j l. refl }
+
+  pub filled_turn : {old out ys : List ℕ} {t c row low : ℕ} → Filled old out t → t ≤ L → 0 < t → L ≤ length old → Turned E K c n (t - 1) ys row low
+      → Filled old (set out (t - 1) row) (t - 1)
+  filled_turn {old} {out} {ys} {t} {c} {row} g w p room u = record {
+    size = simp length-set g.size;
+    written = λ j l v.
+        ⊎_elim
+        (λ (e : t - 1 ≡ j). rw (← e) (get_or-set_same out (t - 1) row 0 (omega (arith, g.size)) ∙ u.holds))
+        (λ (m : t - 1 < j). get_or-set_other out (t - 1) j row 0 (λ q. omega arith) ∙ g.written j (omega arith) v)
+        (eq-or-lt_of_le l);
+    kept = λ j l. get_or-set_other out (t - 1) j row 0 (λ q. omega arith) ∙ g.kept j l;
+  }
 
   pub filled_end : {old out : List ℕ} → Filled old out 0 → L ≤ length old → out ≡ holders E K n 0 L ++ drop L old
   filled_end {old} {out} g room = ext_get_or 0 out (holders E K n 0 L ++ drop L old) long each

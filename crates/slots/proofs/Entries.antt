@@ -2,11 +2,11 @@
 -- Assumes nothing.
 use mathlib.Core.Path.{◌≡◌, refl, sym, ap, ◌∙◌}
 use mathlib.Core.Bool.{true, false}
-use mathlib.Core.List.{List, [], ◌∷◌, map}
-use Prim.Native.Nat.{ℕ, zero, suc, ◌-◌, ◌≤◌, ◌<◌}
+use mathlib.Core.List.{List, [], ◌∷◌, ◌++◌, map}
+use Prim.Native.Nat.{ℕ, zero, suc, ◌+◌, ◌-◌, ◌≤◌, ◌<◌}
 use native.Mathlib.Omega.{arith}
-use lib.ListN.{length, get_or, replicate, length-append, length-map, length-replicate, length-set, get_or-append, get_or-map}
-use lib.Seq.{get_or-set_same, get_or-set_other}
+use lib.ListN.{length, get_or, replicate, length-append, length-map, length-replicate, get_or-replicate, length-set, get_or-append, get_or-map}
+use lib.Seq.{get_or-set_same, get_or-set_other, get_or-append-add}
 use borrow.Author.Tests.{eqb-false}
 use Rattle.table.specs.declared.Row.{Row}
 use Rattle.table.specs.Rows.{blank, row_at}
@@ -22,6 +22,15 @@ pub fresh_at : (rs : List Row) (i : ℕ) → i < length rs → job_at (fresh_job
 unfolding fresh_jobs new_job
 fresh_at rs i l =
     get_or-append (map new_job rs) (replicate (16 - length rs) no_job) no_job i (omega (arith, length-map rs new_job)) ∙ get_or-map new_job rs i blank
+
+-- past the rows there are no jobs
+pub fresh_past : (rs : List Row) (i : ℕ) → length rs ≤ i → i < 16 → job_at (fresh_jobs rs) i ≡ no_job
+unfolding fresh_jobs
+fresh_past rs i l u =
+    let e : i ≡ length (map new_job rs) + (i - length rs) = omega (arith, length-map rs new_job) in
+    ap (λ (k : ℕ). get_or (map new_job rs ++ replicate (16 - length rs) no_job) k no_job) e
+    ∙ get_or-append-add (map new_job rs) (replicate (16 - length rs) no_job) (i - length rs) no_job
+    ∙ get_or-replicate (16 - length rs) (i - length rs) no_job no_job (omega arith)
 
 pub fresh_sixteen : (rs : List Row) → length rs ≤ 16 → length (fresh_jobs rs) ≡ 16
 unfolding fresh_jobs

@@ -1,13 +1,13 @@
 -- The answers of lost units, from what the code has found on each way out.
 -- Assumes nothing.
 use Rattle.std.specs.Prelude.{Option, Some, None, Ok, Err, Result}
-use mathlib.Core.Path.{◌≡◌, ap, ◌∙◌, sym}
+use mathlib.Core.Path.{◌≡◌, refl, ap, ◌∙◌, sym}
 use mathlib.Core.List.{List}
 use Prim.Native.Nat.{ℕ, ◌≤◌}
 use native.Mathlib.Omega.{arith}
 use lib.ListN.{length}
 use Rattle.refusal.specs.declared.Refusal.{Refusal}
-use Rattle.refusal.specs.Order.{or_else}
+use Rattle.refusal.specs.Order.{or_else, answer}
 use Rattle.refusal.proofs.Order.{passes, answer_ok, answer_err}
 use Rattle.table.specs.declared.Table.{Table}
 use Rattle.table.specs.Rows.{used}
@@ -55,6 +55,14 @@ module _ {t : Table} {cycle : ℕ} {q : Record} (st : Steady t cycle q) where
       pub lost_stopped : (stop : Refusal) → f ≡ Some stop → Err stop ≡ lost_from t q reps
       unfolding lost_from
       lost_stopped stop z = answer_err (lost_refusal t q reps) (all_lost t q reps) stop (stops ∙ sym g.stop ∙ z)
+
+      -- either way
+      pub lost_told : (units : ℕ) → (f ≡ None → units ≡ lost_by (used t) q reps) → (r : Result ℕ Refusal) → r ≡ answer f units → r ≡ lost_from t q reps
+      lost_told units h r e = e ∙ go f refl
+        where
+          go : (o : Option Refusal) → f ≡ o → answer f units ≡ lost_from t q reps
+          go None z = rw z (lost_done units h z)
+          go (Some stop) z = rw z (lost_stopped stop z)
 
 pub lost_start : (t : Table) (reps : List ℕ) (s : Started) (r : Result ℕ Refusal) → s ≡ started_for t → r ≡ lost_from t s.start reps → r ≡ lost_fresh t reps
 unfolding lost_fresh started_for

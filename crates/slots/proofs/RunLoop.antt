@@ -23,8 +23,8 @@ use Rattle.slots.specs.Reports.{report_refusal, Outcome, stopped, onto, run_of}
 use Rattle.slots.specs.Answers.{slot_under}
 use Rattle.slots.specs.Turns.{Steady, RunLeaves, loss_at, lost_by}
 use Rattle.slots.proofs.SoundRecord.{Sound, table_usable, sound_if}
-use Rattle.slots.proofs.SlotActs.{InRows}
-use Rattle.slots.proofs.StaysSound.{step_sound}
+use Rattle.slots.proofs.SlotActs.{InRows, allowed_row}
+use Rattle.slots.proofs.StaysSound.{what_allowed, step_sound}
 use Rattle.slots.proofs.RunFacts.{run_none, run_on, run_stops}
 use Rattle.slots.proofs.JoinedRuns.{after}
 use Rattle.slots.proofs.Settled.{stands_sound}
@@ -55,6 +55,9 @@ module _ (t : Table) (q : Record) (rep : ℕ) (s : Stepped) (e : s ≡ slot_unde
     pub slot_byte : s.ran ≡ byte_of (what (used t) q)
     unfolding slot_under
     slot_byte = ap (λ (x : Stepped). x.ran) e ∙ sym (beside_none (report_refusal (what (used t) q) rep) (byte_of (what (used t) q)) (sym slot_refusal ∙ d))
+
+    pub slot_small : {cycle : ℕ} → Steady t cycle q → s.ran < 33
+    slot_small g = rw slot_byte (byte_few (used t) (what (used t) q) (table_usable t g.table).few (allowed_row (used t) q (what (used t) q) (what_allowed (used t) q)))
 
   pub slot_stops : Told s.refusal → accepted (report_refusal (what (used t) q) rep) ≡ false
   slot_stops p = ap accepted (sym slot_refusal) ∙ refused s.refusal p

@@ -96,7 +96,7 @@ module _ {t : Table} {cycle : ℕ} {q : Record} (g : Steady t cycle q) where
       e ∙ ap₂ (λ (h k : ℕ). byte_of (reserved h (unreserved k))) held r
 
   module _ (ran : ℕ) (is : ran ≡ byte_of (what (used t) q)) where
-    runs_what : work_of ran ≡ what (used t) q
+    pub runs_what : work_of ran ≡ what (used t) q
     runs_what = ap work_of is ∙ what_byte (used t) rows.few q
 
     pub stands_workable : length q.jobs ≡ 16 → length t.rows ≡ 16 → Workable t q.jobs ran

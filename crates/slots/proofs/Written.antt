@@ -3,7 +3,7 @@
 use mathlib.Core.Path.{◌≡◌, refl, sym, ◌∙◌}
 use mathlib.Core.Logic.{⊎_elim}
 use mathlib.Core.List.{List}
-use Prim.Native.Nat.{ℕ, ◌-◌, ◌≤◌, ◌<◌}
+use Prim.Native.Nat.{ℕ, ◌+◌, ◌-◌, ◌≤◌, ◌<◌}
 use native.Mathlib.Nat.{eq-or-lt_of_le}
 use native.Mathlib.Omega.{arith}
 use lib.ListN.{length, get_or, set, length-set}
@@ -15,6 +15,17 @@ pub written_start : (a : ℕ) (f : ℕ → ℕ) (old : List ℕ) → Written a a
 written_start a f old = record { size = refl; inside = λ s l u. absurd (omega arith); behind = λ s l. refl; beyond = λ s l. refl }
 
 module _ {f : ℕ → ℕ} {old : List ℕ} where
+  -- the next byte after them
+  pub written_up : {a s x : ℕ} {out : List ℕ} → Written a s f old out → a ≤ s → s < length old → x ≡ f s → Written a (s + 1) f old (set out s x)
+  written_up {a} {s} {x} {out} g l room e = record {
+    size = simp length-set g.size;
+    inside = λ t u v.
+        ⊎_elim (λ (m : t < s). get_or-set_other out s t x 0 (λ q. omega arith) ∙ g.inside t u m)
+        (λ (m : s ≤ t). let q : t ≡ s = omega arith in rw q (get_or-set_same out s x 0 (omega (arith, g.size)) ∙ e)) (side t s);
+    behind = λ t u. get_or-set_other out s t x 0 (λ q. omega arith) ∙ g.behind t u;
+    beyond = λ t u. get_or-set_other out s t x 0 (λ q. omega arith) ∙ g.beyond t (omega arith);
+  }
+
   pub written_end : {a s b : ℕ} {out : List ℕ} → Written a s f old out → s ≤ b → b ≤ s → Written a b f old out
   written_end {a} {s} {b} g l u = let q : s ≡ b = omega arith in rw q at g
 

@@ -1,5 +1,6 @@
 // A list of reports from a sound record, slot by slot, with the reservations kept in a lent buffer.
 ghost use Rattle.std.specs.Prelude.{None, ◌≡◌, ◌||◌, ◌≤◌, ◌<◌, ltb, length, set};
+ghost use Rattle.refusal.specs.Order.{answer};
 ghost use Rattle.table.specs.Rows.{used};
 ghost use Rattle.slots.specs.Reports.{run_of};
 ghost use Rattle.slots.specs.Answers.{ran_by, log_after, buffer_after};
@@ -134,6 +135,17 @@ fn lacks_room(log: usize, reports: usize, buffer: usize, cycle: u16) -> bool
     log < reports || buffer < cycle as usize
 }
 
+// The units lost by a list that nothing stopped, or the refusal that stopped it.
+// A function of its own: a sum in the place of the refusal is ruled out here, whatever the run (`lost_beside_a_refusal`).
+fn lost_with(refusal: Option<Refusal>, units: u64) -> Result<u64, Refusal>
+    ensures { result ≡ answer refusal units }
+{
+    match refusal {
+        None => Ok(units),
+        Some(f) => Err(f),
+    }
+}
+
 impl Admitted {
     // Builds the buffer, whatever it held, and runs the list over it. The log may be shorter than the list: no byte is written past it.
     fn course(self, reports: &[u8], log: &mut [u8], kept: &mut [u8]) -> Course
@@ -179,9 +191,6 @@ impl Admitted {
         let mut log = [0u8; 0];
         let mut buffer = [0u8; 4096];
         let course = self.course(reports, &mut log, &mut buffer);
-        match course.refusal {
-            None => Ok(course.lost),
-            Some(f) => Err(f),
-        }
+        lost_with(course.refusal, course.lost)
     }
 }

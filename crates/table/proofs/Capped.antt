@@ -6,7 +6,7 @@ use mathlib.Core.Bool.{Bool, true, false}
 use mathlib.Core.List.{List}
 use Prim.Native.Nat.{ℕ, ◌+◌, ◌*◌, ◌/◌, ◌≤◌, ◌<◌}
 use native.Mathlib.Omega.{arith}
-use native.Mathlib.Nat.{pos_of_dvd_of_pos}
+use native.Mathlib.Nat.{zero-mul, div-zero, pos_of_dvd_of_pos}
 use borrow.Author.Tests.{le-leb, lt-leb, leb-true, leb-false}
 use lib.Dec.{leb}
 use lib.ListN.{length, drop, drop_of_length-le}
@@ -47,6 +47,12 @@ module _ (x y g : ℕ) (e : g ≡ gcd_of x y) where
   lcm_by : lcm_of x y ≡ x / g * y
   unfolding lcm_of
   lcm_by = rw e
+
+  -- a divisor of 0 is that of 0 and 0
+  pub joined_none : g ≡ 0 → Some 0 ≡ within_cycle (lcm_of x y)
+  joined_none z =
+      let n : lcm_of x y ≡ 0 = lcm_by ∙ rw (z, div-zero, zero-mul) in
+      rw n (within_under 0 (omega arith))
 
   pub joined_under : x / g * y ≤ 4096 → Some (x / g * y) ≡ within_cycle (lcm_of x y)
   joined_under h = rw lcm_by (within_under (x / g * y) h)

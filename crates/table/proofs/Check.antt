@@ -68,7 +68,7 @@ module _ (t : Table) where
       last : rows_refusal t ≡ given (ltb 4096 (cycle_of (used t))) Cycle
       last = reached ∙ sym (passes _ _ d)
 
-      check_cycle : within_cycle (cycle_of (used t)) ≡ None → Err Cycle ≡ rows_check t
+      pub check_cycle : within_cycle (cycle_of (used t)) ≡ None → Err Cycle ≡ rows_check t
       unfolding rows_check
       check_cycle e =
           ⊎_elim
@@ -76,7 +76,7 @@ module _ (t : Table) where
           (λ p. answer_err (rows_refusal t) (cycle_of (used t)) Cycle (last ∙ rw (lt-ltb 4096 _ p.0)))
           (within_cases (cycle_of (used t)))
 
-      check_none : (c : ℕ) → within_cycle (cycle_of (used t)) ≡ Some c → Ok c ≡ rows_check t
+      pub check_none : (c : ℕ) → within_cycle (cycle_of (used t)) ≡ Some c → Ok c ≡ rows_check t
       unfolding rows_check
       check_none c e =
           let w = within_is _ c e in

@@ -24,8 +24,8 @@ pub(crate) fn number(n: u64) {
 // The name of the kind, the number of refusal and the row named; 0 where nothing is refused.
 pub(crate) fn head(name: &[u8], refusal: Option<Refusal>) {
     text(name);
-    number(refusal.map_or(0, |f| f.number() as u64));
-    number(refusal.map_or(0, |f| f.named_row() as u64));
+    number(refusal::number(refusal) as u64);
+    number(refusal::named_row(refusal) as u64);
 }
 
 // A field of so many hexadecimal digits for each place.

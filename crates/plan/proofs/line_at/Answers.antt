@@ -6,7 +6,7 @@ use Rattle.plan.proofs.PrintedLines.{period_here, look_start, look_on, look_room
 use Rattle.plan.proofs.line_at.Goals as goal
 
 pub loop-i-init : goal.loop-i-init
-loop-i-init c = look_start _ _
+loop-i-init c = look_start c.requires.0 c.rows-row-items.ensures.rows c.rows-row-items.ensures.few _
 
 pub nonzero_div-jobs : goal.nonzero_div-jobs
 nonzero_div-jobs c = search (period_here)
