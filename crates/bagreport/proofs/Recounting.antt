@@ -26,6 +26,7 @@ use Rattle.bagreport.proofs.SlotsTold.{Along, along_end}
 use Rattle.bagreport.proofs.Closing.{Countable, ClosedAt, Closing, closing_start, closing_end}
 use Rattle.bagreport.proofs.StretchTold.{told_after, counted_after, ended_code}
 use Rattle.bagreport.proofs.BagsMarked.{bagged_after, beyond_after}
+use Rattle.bagreport.proofs.Passing.{beyond_trans}
 
 -- fewer bytes of a log
 pub logged_less : (t : Table) (reps : List ℕ) (base n : ℕ) (log : List ℕ) → Logged t reps base n log → (m : ℕ) → m ≤ n → Logged t reps base m log
@@ -143,5 +144,5 @@ module _ {t : Table} {reps log : List ℕ} {base n place : ℕ} {spans old : Lis
                 bagged =
                     bagged_after t reps place spans (base + i) (base + stop) later (long place g.is_row) (close place g.is_row) (get_or after place no_open).ended
                     code marks marks' g.bagged on_end inside;
-                beyond = record { size = beyond.size ∙ g.beyond.size; stay = λ c l. beyond.stay c l ∙ g.beyond.stay c l };
+                beyond = beyond_trans g.beyond beyond;
               }
